@@ -5,8 +5,33 @@
 //! answers `NoMemory`.
 #![tactic(auto)]
 
+mod clocks;
+mod file_source;
+mod gates;
 mod lists;
+mod mem_link;
+mod mem_sink;
+mod mem_source;
+mod mem_wire;
 mod no_memory;
+mod sinks;
+mod sources;
+mod std_sink;
+mod step_clock;
+mod whole;
+mod wires;
 
+pub use clocks::{Clock, LAST_MOMENT};
+pub use file_source::FileSource;
+pub use gates::{Gate, OpenGate};
 pub use lists::{Bytes, Label, Rows};
+pub use mem_sink::MemSink;
+pub use mem_source::MemSource;
+pub use mem_wire::MemWire;
 pub use no_memory::NoMemory;
+pub use sinks::{Sink, Wrote};
+pub use sources::{Got, Source};
+pub use std_sink::StdSink;
+pub use step_clock::StepClock;
+pub use whole::{ReadAll, WriteFault, read_all, write_all};
+pub use wires::{Accepted, Listened, MOST_CONNECTIONS, Wire, WireGot, WireWrote};

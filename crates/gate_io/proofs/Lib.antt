@@ -1,0 +1,2 @@
+pub mod WholeFacts
+pub mod WireFacts

@@ -1,0 +1,110 @@
+use Rattle.std.specs.Prelude.{◌≡◌, ◌≢◌, ℕ, ◌+◌, ◌<◌, ◌≤◌, Bool, false, List, [], ◌++◌, Option, None, Some, IfSome, length, take, drop}
+use Rattle.gate_io.specs.Counts.{HasRisen}
+use Rattle.gate_io.specs.declared.wires.WireGot.{WireGot}
+use Rattle.gate_io.specs.declared.wires.WireGot.TheVariants as got
+use Rattle.gate_io.specs.declared.wires.WireWrote.{WireWrote}
+use Rattle.gate_io.specs.declared.wires.WireWrote.TheVariants as wrote
+use Rattle.gate_io.specs.declared.wires.Accepted.{Accepted}
+use Rattle.gate_io.specs.declared.wires.Accepted.TheVariants as accept
+use Rattle.gate_io.specs.declared.wires.Listened.{Listened}
+use Rattle.gate_io.specs.declared.wires.Listened.TheVariants as listen
+
+-- what a wire tells of one of its connections
+pub record Link : Type 0 where
+  -- the bytes that can still be read and the bytes that were written, where the wire tells them
+  pub left : Option (List ℕ)
+  pub written : Option (List ℕ)
+  pub closed : Bool
+  -- how often a read failed, found nothing yet, found the end, and how often a write failed or was blocked
+  pub read_faults : ℕ
+  pub read_blocks : ℕ
+  pub ends : ℕ
+  pub write_faults : ℕ
+  pub write_blocks : ℕ
+
+-- what a wire tells beside its connections
+pub record Door : Type 0 where
+  pub accepted : ℕ
+  pub listen_faults : ℕ
+  pub accept_faults : ℕ
+  pub idle_accepts : ℕ
+
+-- no count of a connection falls
+pub record LinkGoesOn (old new : Link) : Type 0 where
+  pub read_faults : old.read_faults ≤ new.read_faults
+  pub read_blocks : old.read_blocks ≤ new.read_blocks
+  pub ends : old.ends ≤ new.ends
+  pub write_faults : old.write_faults ≤ new.write_faults
+  pub write_blocks : old.write_blocks ≤ new.write_blocks
+
+-- no count of the wire falls
+pub record DoorGoesOn (old new : Door) : Type 0 where
+  pub accepted : old.accepted ≤ new.accepted
+  pub listen_faults : old.listen_faults ≤ new.listen_faults
+  pub accept_faults : old.accept_faults ≤ new.accept_faults
+  pub idle_accepts : old.idle_accepts ≤ new.idle_accepts
+
+-- every connection but this one is as it was
+abbrev pub OthersStay : (ℕ → Link) → (ℕ → Link) → ℕ → Type 0
+OthersStay old new c = (d : ℕ) → d ≢ c → new d ≡ old d
+
+-- a connection that was accepted and not closed
+pub record IsOpen (door : Door) (links : ℕ → Link) (c : ℕ) : Type 0 where
+  pub accepted : c < door.accepted
+  pub open_still : (links c).closed ≡ false
+
+-- a read into this much room gives at least one byte and no more than fit
+abbrev pub WireGotWithin : ℕ → WireGot → Type 0
+WireGotWithin room (got.Bytes n) = (0 < n) × (n ≤ room)
+WireGotWithin room got.End = Unit {0}
+WireGotWithin room got.Blocked = Unit {0}
+WireGotWithin room got.Failed = Unit {0}
+
+-- Where the bytes that are left are told, a read takes the first of them and puts them at the buffer's front,
+-- the end comes only with nothing left, and a block or a failure takes nothing.
+abbrev pub WireGivesFrom : Option (List ℕ) → WireGot → List ℕ → Option (List ℕ) → Type 0
+WireGivesFrom None result buf after = Unit {0}
+WireGivesFrom (Some left) (got.Bytes n) buf after = (n ≤ length left) × (take n buf ≡ take n left) × (after ≡ Some (drop n left))
+WireGivesFrom (Some left) got.End buf after = (left ≡ []) × (after ≡ Some [])
+WireGivesFrom (Some left) got.Blocked buf after = after ≡ Some left
+WireGivesFrom (Some left) got.Failed buf after = after ≡ Some left
+
+-- End, Blocked and Failed each come only where their own count rose
+abbrev pub ReadHasCause : Link → Link → WireGot → Type 0
+ReadHasCause old new (got.Bytes n) = Unit {0}
+ReadHasCause old new got.End = HasRisen old.ends new.ends
+ReadHasCause old new got.Blocked = HasRisen old.read_blocks new.read_blocks
+ReadHasCause old new got.Failed = HasRisen old.read_faults new.read_faults
+
+-- a write of this many bytes takes at least one and no more than there are
+abbrev pub WireWroteWithin : ℕ → WireWrote → Type 0
+WireWroteWithin len (wrote.Bytes n) = (0 < n) × (n ≤ len)
+WireWroteWithin len wrote.Blocked = Unit {0}
+WireWroteWithin len wrote.Failed = Unit {0}
+
+-- Where the bytes that were written are told, a write puts the first of the piece behind them, and a block or a
+-- failure nothing.
+abbrev pub WireTakesFrom : Option (List ℕ) → WireWrote → List ℕ → Option (List ℕ) → Type 0
+WireTakesFrom None result piece after = Unit {0}
+WireTakesFrom (Some written) (wrote.Bytes n) piece after = after ≡ Some (written ++ take n piece)
+WireTakesFrom (Some written) wrote.Blocked piece after = after ≡ Some written
+WireTakesFrom (Some written) wrote.Failed piece after = after ≡ Some written
+
+-- Blocked and Failed each come only where their own count rose
+abbrev pub WriteHasCause : Link → Link → WireWrote → Type 0
+WriteHasCause old new (wrote.Bytes n) = Unit {0}
+WriteHasCause old new wrote.Blocked = HasRisen old.write_blocks new.write_blocks
+WriteHasCause old new wrote.Failed = HasRisen old.write_faults new.write_faults
+
+-- A new connection has the number of those accepted before it, is open, and nothing was written to it.
+-- Nothing and Failed accept none, and each comes only where its own count rose.
+abbrev pub Accepts : Door → Door → (ℕ → Link) → Accepted → Type 0
+Accepts old new links (accept.New c) = (c ≡ old.accepted) × (new.accepted ≡ old.accepted + 1) × ((links c).closed ≡ false) × IfSome (links c).written (λ bytes. bytes ≡ [])
+Accepts old new links accept.Nothing = (new.accepted ≡ old.accepted) × HasRisen old.idle_accepts new.idle_accepts
+Accepts old new links accept.Failed = (new.accepted ≡ old.accepted) × HasRisen old.accept_faults new.accept_faults
+
+-- listening fails only where its count rose; want of memory raises none
+abbrev pub Listens : Door → Door → Listened → Type 0
+Listens old new listen.Ready = new.accepted ≡ old.accepted
+Listens old new listen.OutOfMemory = new ≡ old
+Listens old new listen.Failed = (new.accepted ≡ old.accepted) × HasRisen old.listen_faults new.listen_faults

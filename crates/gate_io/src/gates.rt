@@ -1,0 +1,29 @@
+ghost use Rattle.std.specs.Prelude.{◌≡◌, Bool, true};
+
+/// What a library asks before each of its calls, so that a test can hold it back.
+pub trait Gate {
+    /// Whether the gate lets everyone pass.
+    ghost open_wide: { Self → Bool };
+
+    /// Whether this library may make its next call. `turn` is the number of its passes so far.
+    fn pass(&self, lib: u32, turn: u64) -> bool
+        ensures { open_wide self.now ≡ true → result ≡ true };
+}
+
+/// The gate that lets everyone pass.
+#[derive(Clone, Copy, Debug, PartialEq, Eq)]
+pub struct OpenGate {}
+
+impl OpenGate {
+    pub fn new() -> OpenGate {
+        OpenGate {}
+    }
+}
+
+impl Gate for OpenGate {
+    ghost open_wide = { λ _. true };
+
+    fn pass(&self, _lib: u32, _turn: u64) -> bool {
+        true
+    }
+}

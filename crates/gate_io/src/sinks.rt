@@ -1,0 +1,28 @@
+ghost use Rattle.std.specs.Prelude.{◌≡◌, ◌<◌, ◌≤◌, ℕ, List, Option, length};
+ghost use Rattle.gate_io.specs.Counts.{HasRisen};
+ghost use Rattle.gate_io.specs.Sink.{WroteWithin, TakesFrom};
+
+/// What a write to a sink takes.
+#[derive(Clone, Copy, Debug, PartialEq, Eq)]
+pub enum Wrote {
+    /// This many bytes, the first of the piece.
+    Bytes(usize),
+    /// The write failed, and took nothing.
+    Failed,
+}
+
+/// What bytes are written to, one piece after another.
+pub trait Sink {
+    /// The bytes that were taken so far, where the sink tells them.
+    ghost held: { Self → Option (List ℕ) };
+
+    /// How many writes failed.
+    ghost faults: { Self → ℕ };
+
+    fn write(&mut self, piece: &[u8]) -> Wrote
+        requires { 0 < length piece.now }
+        ensures within { WroteWithin (length piece.now) result }
+        ensures content { TakesFrom (held self.old) result piece.now (held self.new) }
+        ensures fault_counted { result ≡ Wrote.Failed → HasRisen (faults self.old) (faults self.new) }
+        ensures faults_kept { faults self.old ≤ faults self.new };
+}

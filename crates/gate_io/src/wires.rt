@@ -1,0 +1,127 @@
+ghost use Rattle.std.specs.Prelude.{◌≡◌, ◌<◌, ◌≤◌, ℕ, List, Option, length, true};
+ghost use Rattle.gate_io.specs.Wire.{Link, Door, LinkGoesOn, DoorGoesOn, OthersStay, IsOpen, WireGotWithin, WireGivesFrom, ReadHasCause, WireWroteWithin, WireTakesFrom, WriteHasCause, Accepts, Listens};
+
+/// The most connections that one run accepts.
+pub const MOST_CONNECTIONS: u32 = 1024;
+
+/// What a read of a connection gives.
+#[derive(Clone, Copy, Debug, PartialEq, Eq)]
+pub enum WireGot {
+    /// This many bytes, which stand at the buffer's front.
+    Bytes(usize),
+    /// The counterparty's input is read to its end.
+    End,
+    /// Nothing can be read now.
+    Blocked,
+    /// The read failed, and took nothing.
+    Failed,
+}
+
+/// What a write to a connection takes.
+#[derive(Clone, Copy, Debug, PartialEq, Eq)]
+pub enum WireWrote {
+    /// This many bytes, the first of the piece.
+    Bytes(usize),
+    /// Nothing can be written now.
+    Blocked,
+    /// The write failed, and took nothing.
+    Failed,
+}
+
+/// What came of asking for a new connection.
+#[derive(Clone, Copy, Debug, PartialEq, Eq)]
+pub enum Accepted {
+    /// A connection, under the number of those that were accepted before it.
+    New(u32),
+    /// No connection waits.
+    Nothing,
+    /// The accept failed.
+    Failed,
+}
+
+/// What came of beginning to listen.
+#[derive(Clone, Copy, Debug, PartialEq, Eq)]
+pub enum Listened {
+    Ready,
+    OutOfMemory,
+    Failed,
+}
+
+/// The connections to counterparties. A connection is named by a number from 0, in the order in
+/// which they were accepted.
+pub trait Wire {
+    ghost use Rattle.gate_io.specs.declared.wires.WireGot.{WireGot};
+    ghost use Rattle.gate_io.specs.declared.wires.WireWrote.{WireWrote};
+    ghost use Rattle.gate_io.specs.declared.wires.Accepted.{Accepted};
+
+    /// What the wire tells of a connection.
+    ghost link: { Self → ℕ → Link };
+
+    /// What the wire tells beside its connections.
+    ghost door: { Self → Door };
+
+    /// What a read gives, for a wire that fixes it: the wire before, the connection, the buffer's
+    /// length, the answer, the wire after.
+    ghost read_gives: { Self → ℕ → ℕ → WireGot → Self → Type 0 } = { λ _ _ _ _ _. Unit {0} };
+
+    /// What a write takes, for a wire that fixes it: the wire before, the connection, the piece, the
+    /// answer, the wire after.
+    ghost write_gives: { Self → ℕ → List ℕ → WireWrote → Self → Type 0 } = { λ _ _ _ _ _. Unit {0} };
+
+    /// What an accept gives, for a wire that fixes it.
+    ghost accept_gives: { Self → Accepted → Self → Type 0 } = { λ _ _ _. Unit {0} };
+
+    /// Begins to listen at an address, an IP address or host name with a port.
+    fn listen(&mut self, address: &str) -> Listened
+        ensures listens { Listens (door self.old) (door self.new) result }
+        ensures door_goes_on { DoorGoesOn (door self.old) (door self.new) }
+        ensures links_stay { (c : ℕ) → link self.new c ≡ link self.old c };
+
+    /// Takes the next connection that waits.
+    fn accept(&mut self) -> Accepted
+        requires { (door self.old).accepted < MOST_CONNECTIONS }
+        ensures accepts { Accepts (door self.old) (door self.new) (link self.new) result }
+        ensures exact { accept_gives self.old result self.new }
+        ensures door_goes_on { DoorGoesOn (door self.old) (door self.new) }
+        ensures others_stay { OthersStay (link self.old) (link self.new) (door self.old).accepted };
+
+    fn read(&mut self, c: u32, buf: &mut [u8]) -> WireGot
+        requires open_still { IsOpen (door self.old) (link self.old) c }
+        requires room { 0 < length buf.old }
+        ensures within { WireGotWithin (length buf.old) result }
+        ensures content { WireGivesFrom (link self.old c).left result buf.new (link self.new c).left }
+        ensures exact { read_gives self.old c (length buf.old) result self.new }
+        ensures cause { ReadHasCause (link self.old c) (link self.new c) result }
+        ensures written_stays { (link self.new c).written ≡ (link self.old c).written }
+        ensures stays_open { IsOpen (door self.new) (link self.new) c }
+        ensures goes_on { LinkGoesOn (link self.old c) (link self.new c) }
+        ensures door_stays { door self.new ≡ door self.old }
+        ensures others_stay { OthersStay (link self.old) (link self.new) c };
+
+    fn write(&mut self, c: u32, piece: &[u8]) -> WireWrote
+        requires open_still { IsOpen (door self.old) (link self.old) c }
+        requires bytes { 0 < length piece.now }
+        ensures within { WireWroteWithin (length piece.now) result }
+        ensures content { WireTakesFrom (link self.old c).written result piece.now (link self.new c).written }
+        ensures exact { write_gives self.old c piece.now result self.new }
+        ensures cause { WriteHasCause (link self.old c) (link self.new c) result }
+        ensures left_stays { (link self.new c).left ≡ (link self.old c).left }
+        ensures stays_open { IsOpen (door self.new) (link self.new) c }
+        ensures goes_on { LinkGoesOn (link self.old c) (link self.new c) }
+        ensures door_stays { door self.new ≡ door self.old }
+        ensures others_stay { OthersStay (link self.old) (link self.new) c };
+
+    /// Closes a connection. It is neither read nor written from then on.
+    fn close(&mut self, c: u32)
+        requires { IsOpen (door self.old) (link self.old) c }
+        ensures closed { (link self.new c).closed ≡ true }
+        ensures written_stays { (link self.new c).written ≡ (link self.old c).written }
+        ensures goes_on { LinkGoesOn (link self.old c) (link self.new c) }
+        ensures door_stays { door self.new ≡ door self.old }
+        ensures others_stay { OthersStay (link self.old) (link self.new) c };
+
+    /// Waits for something to do, for at most this many milliseconds where the wire waits at all.
+    fn pause(&mut self, ms: u32)
+        ensures door_stays { door self.new ≡ door self.old }
+        ensures links_stay { (c : ℕ) → link self.new c ≡ link self.old c };
+}
