@@ -3,7 +3,8 @@ use Rattle.std.proofs.Common.{◌≡◌, ℕ, ◌+◌, ◌<◌, List, [], ◌∷
 use Rattle.std.proofs.Math.ListN.{get_or-map}
 use Rattle.std.proofs.Math.Seq.{map-set_same}
 use Rattle.std.proofs.lemmas.List.{take_more, drop_more, take_more_set, drop-set-lt, map-append, take_at}
-use Rattle.gate_io.specs.MemWire.{LinkState, new_link, link_reserved, without_room, AreFresh}
+use Rattle.gate_io.specs.MemWire.{LinkState, WireState, new_link, link_reserved, without_room, AreFresh, SameButRoom, door_of, link_at}
+use Rattle.gate_io.specs.Wire.{IsOpen}
 
 -- fresh connections that keep all but their room are fresh
 pub AreFresh-kept : (old new : List LinkState) (accepted : ℕ) → AreFresh old accepted → map without_room new ≡ map without_room old → AreFresh new accepted
@@ -38,3 +39,12 @@ ReservedBelow-more n i links before l m within same_len so_far reserved kept =
 -- a slice that is written back whole
 pub written_back : (links items : List LinkState) (len : ℕ) → length links ≡ len → take len (links ++ drop (length links) items) ≡ links
 written_back links items len e = take_at links (drop (length links) items) len e
+
+-- a connection that keeps all but its room is open as it was
+pub IsOpen-kept : (old new : WireState) → SameButRoom old new → (c : ℕ) → IsOpen (door_of old) (link_at old) c → IsOpen (door_of new) (link_at new) c
+IsOpen-kept old new same c open_before =
+    let e = sym (get_or-map without_room new.links c new_link) ∙ ap (λ (ls : List LinkState). get_or ls c (without_room new_link)) same.links ∙ get_or-map without_room old.links c new_link in
+    record {
+      accepted = rw same.accepted open_before.accepted;
+      open_still = ap (λ (l : LinkState). l.closed) e ∙ open_before.open_still
+    }

@@ -77,6 +77,7 @@ impl MemWire {
     pub fn reserve(&mut self, _alloc: Global, n: usize) -> Result<(), NoMemory>
         ensures ok { OnOk result (self.new ≡ record self.old { links = map (link_reserved n) (self.old).links }) }
         ensures kept { SameButRoom self.old self.new }
+        ensures stay_open { (c : ℕ) → IsOpen (door_of self.old) (link_at self.old) c → IsOpen (door_of self.new) (link_at self.new) c }
     {
         reserve_each(self.links.as_mut_slice(), n)
     }
