@@ -46,5 +46,5 @@ IsOpen-kept old new same c open_before =
     let e = sym (get_or-map without_room new.links c new_link) ∙ ap (λ (ls : List LinkState). get_or ls c (without_room new_link)) same.links ∙ get_or-map without_room old.links c new_link in
     record {
       accepted = rw same.accepted open_before.accepted;
-      open_still = ap (λ (l : LinkState). l.closed) e ∙ open_before.open_still
+      open_still = ap (λ (l : LinkState). l.closed) e ∙ open_before.open_still;
     }

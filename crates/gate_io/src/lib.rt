@@ -35,3 +35,6 @@ pub use std_sink::StdSink;
 pub use step_clock::StepClock;
 pub use whole::{ReadAll, WriteFault, read_all, write_all};
 pub use wires::{Accepted, Listened, MOST_CONNECTIONS, Wire, WireGot, WireWrote};
+
+#[cfg(test)]
+mod tests;

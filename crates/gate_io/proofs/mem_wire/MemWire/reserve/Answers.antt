@@ -1,5 +1,5 @@
 use Rattle.std.proofs.Common.{◌≡◌, refl, ◌∙◌, ap, map, length, arith}
-use Rattle.gate_io.specs.MemWire.{without_room, SameButRoom}
+use Rattle.gate_io.specs.MemWire.{without_room}
 use Rattle.gate_io.proofs.WireFacts.{AreFresh-kept, IsOpen-kept, written_back}
 use Rattle.gate_io.proofs.mem_wire.MemWire.reserve.Goals as goal
 
