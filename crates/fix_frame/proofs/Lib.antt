@@ -1,0 +1,12 @@
+pub mod Agrees
+pub mod Form
+pub mod Digits
+pub mod Standing
+pub mod Cutting
+pub mod Places
+pub mod Fronts
+pub mod Rings
+pub mod Nexts
+pub mod Stretches
+pub mod Written
+pub mod Told

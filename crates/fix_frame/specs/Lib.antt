@@ -1,0 +1,9 @@
+pub mod Frame
+pub mod Cut
+pub mod Look
+pub mod Store
+pub mod Ring
+pub mod Cutting
+pub mod Inside
+pub mod Loans
+pub mod Rows

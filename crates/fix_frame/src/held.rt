@@ -1,0 +1,45 @@
+//! Bytes in order that lie in two slices.
+
+ghost use Rattle.std.specs.Prelude.{◌≡◌, ◌<◌, ◌++◌, length, slice_index};
+
+use std::marker::Model;
+
+/// Bytes that lie in two slices, the front before the back.
+#[derive(Drop)]
+pub(crate) struct Held<'a> {
+    front: &'a [u8],
+    back: &'a [u8],
+}
+
+impl<'a> Model for Held<'a> {
+    ghost use Rattle.std.specs.Prelude.{List, ℕ, ◌++◌};
+
+    ghost Value = { List ℕ };
+
+    ghost view = { λ h. h.front.now ++ h.back.now };
+}
+
+impl<'a> Held<'a> {
+    pub(crate) fn new(front: &'a [u8], back: &'a [u8]) -> Held<'a>
+        ensures { result ≡ front.now ++ back.now }
+    {
+        Held { front, back }
+    }
+
+    pub(crate) fn len(&self) -> usize
+        ensures { result ≡ length self.now }
+    {
+        self.front.len() + self.back.len()
+    }
+
+    pub(crate) fn at(&self, i: usize) -> u8
+        requires { i < length self.now }
+        ensures { result ≡ slice_index self.now i }
+    {
+        if i < self.front.len() {
+            self.front[i]
+        } else {
+            self.back[i - self.front.len()]
+        }
+    }
+}

@@ -1,0 +1,124 @@
+//! Putting a body into a frame.
+
+ghost use Rattle.std.specs.Prelude.{◌≡◌, ◌≢◌, ◌+◌, ◌*◌, ◌^◌, ◌<◌, ◌≤◌, ◌↔◌, ◌++◌, ◌∷◌, [], List, ℕ, IfOk, OnOk, IsErrOf, IsTrue, decimal, length};
+ghost use Rattle.fix_frame.specs.declared.write.FrameError.TheVariants.{OutOfMemory};
+ghost use Rattle.fix_frame.specs.Frame.{IsBody, frame_of, three_digits};
+ghost use Rattle.fix_frame.specs.Cut.{cut, good, onto};
+
+use crate::layout::{BODY_END, BODY_START, HEAD, LONGEST_FRAME, SOH, TRAILER, checksum};
+use std::alloc::{AllocError, AllocFailed, Global};
+use std::error::Error;
+use std::fmt;
+
+/// Why a frame wasn't written.
+#[derive(Clone, Copy, Debug, PartialEq, Eq)]
+pub enum FrameError {
+    /// The frame would have `length` bytes, more than `LONGEST_FRAME`.
+    TooLong { length: usize },
+    /// There is no memory for the frame.
+    OutOfMemory,
+}
+
+impl fmt::Display for FrameError {
+    fn fmt<W: fmt::Write>(&self, f: &mut fmt::Formatter<W>) -> fmt::Result {
+        match self {
+            FrameError::TooLong { length } => { write!(f, "a frame of {length} bytes is too long") }
+            FrameError::OutOfMemory => write!(f, "out of memory"),
+        }
+    }
+}
+
+impl Error for FrameError {}
+
+impl From<AllocError> for FrameError {
+    ghost from_gives = { λ _ e. e ≡ OutOfMemory };
+
+    fn from(_e: AllocError) -> FrameError {
+        FrameError::OutOfMemory
+    }
+}
+
+impl<T: Drop> From<AllocFailed<T>> for FrameError {
+    ghost from_gives = { λ _ e. e ≡ OutOfMemory };
+
+    fn from(_e: AllocFailed<T>) -> FrameError {
+        FrameError::OutOfMemory
+    }
+}
+
+/// Whether the bytes can be the body of a frame: they begin with `35=`, and end with the byte that
+/// ends a field.
+pub fn is_body(bytes: &[u8]) -> bool
+    ensures { IsTrue result ↔ IsBody bytes.now }
+{
+    bytes.len() > BODY_START.len()
+        && bytes[..BODY_START.len()] == BODY_START[..]
+        && bytes[bytes.len() - 1] == SOH
+}
+
+/// The frame of a body: `8=FIX.4.4|9=len|body10=ccc|`, where `|` is byte 1, `len` is the body's
+/// length without leading zeros, and `ccc` is the sum of all bytes before `10=`, modulo 256, in
+/// three digits. FIX 4.4, volume 1, "Message format".
+pub fn write_frame(alloc: Global, body: &[u8]) -> Result<Vec<u8>, FrameError>
+    requires { IsBody body.now }
+    ensures frame { IfOk result (λ frame. frame.items ≡ frame_of body.now) }
+    ensures too_long { (n : ℕ) → (result ≡ Err (FrameError.TooLong n)) ↔ ((n ≡ length (frame_of body.now)) × (LONGEST_FRAME < n)) }
+    // Whatever bytes stand behind it, the cut of them begins with this body.
+    ensures cut { IfOk result (λ frame. (more : List ℕ) → cut LONGEST_FRAME (frame.items ++ more) ≡ onto (good body.now) (cut LONGEST_FRAME more)) }
+{
+    let length = HEAD.len() + decimal_len(body.len()) + 1 + body.len() + TRAILER;
+    if length > LONGEST_FRAME {
+        return Err(FrameError::TooLong { length });
+    }
+    Ok(framed(alloc, body, length)?)
+}
+
+/// The frame of a body, in a vector with room for `length` bytes.
+fn framed(alloc: Global, body: &[u8], length: usize) -> Result<Vec<u8>, AllocError>
+    ensures { IfOk result (λ frame. frame.items ≡ frame_of body.now) }
+{
+    let mut frame = Vec::with_capacity(alloc, length)?;
+    frame.extend_from_slice(HEAD)?;
+    push_decimal(&mut frame, body.len())?;
+    frame.push(SOH)?;
+    frame.extend_from_slice(body)?;
+    let sum = checksum(&frame);
+    frame.extend_from_slice(&BODY_END[1..])?;
+    frame.extend_from_slice(&three_digits(sum))?;
+    frame.push(SOH)?;
+    Ok(frame)
+}
+
+/// How many digits the number has.
+fn decimal_len(number: usize) -> usize
+    ensures digits { result ≡ length (decimal number) }
+    ensures small { result ≤ 20 }
+{
+    if number < 10 {
+        1
+    } else {
+        decimal_len(number / 10) + 1
+    }
+}
+
+/// Writes the number's digits at the end.
+fn push_decimal(text: &mut Vec<u8>, number: usize) -> Result<(), AllocError>
+    ensures { OnOk result (text.new.items ≡ text.old.items ++ decimal number) }
+{
+    if number >= 10 {
+        push_decimal(text, number / 10)?;
+    }
+    text.push(b'0' + (number % 10) as u8)?;
+    Ok(())
+}
+
+/// Three decimal digits.
+fn three_digits(number: u8) -> [u8; 3]
+    ensures { result ≡ three_digits number }
+{
+    [
+        b'0' + number / 100,
+        b'0' + number / 10 % 10,
+        b'0' + number % 10,
+    ]
+}
