@@ -1,0 +1,11 @@
+pub mod CountOff
+pub mod Days
+pub mod Drafts
+pub mod Faults
+pub mod Numbers
+pub mod OneField
+mod Rows
+pub mod Splits
+pub mod Stamps
+pub mod Unfit
+pub mod WholeBody

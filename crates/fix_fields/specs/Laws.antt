@@ -1,0 +1,47 @@
+-- What holds of the definitions.
+use Rattle.std.specs.Prelude.{◌≡◌, ◌↔◌, ◌⊎◌, ℕ, ◌≤◌, List, Some, Ok, Err}
+use Rattle.fix_fields.specs.Body.{IsFields}
+use Rattle.fix_fields.specs.Calendar.{Date, IsDate, day_number}
+use Rattle.fix_fields.specs.Field.{Field}
+use Rattle.fix_fields.specs.FirstFault.{IsFirstFault}
+use Rattle.fix_fields.specs.Reading.{fields_of}
+use Rattle.fix_fields.specs.Stamp.{date_of_day, moment_of, stamp_of, IsStamp}
+use Rattle.fix_fields.specs.declared.error.FieldError.{FieldError}
+
+-- the reading of a body gives the fields whose texts it is
+abbrev pub ReadsAsSpelled : Type 0
+ReadsAsSpelled = (body : List ℕ) (fields : List Field) → (fields_of body ≡ Ok fields) ↔ IsFields body fields
+
+-- and the fault behind the lawful fields at its front
+abbrev pub FaultsAsFirst : Type 0
+FaultsAsFirst = (body : List ℕ) (fault : FieldError) → (fields_of body ≡ Err fault) ↔ IsFirstFault body fault
+
+abbrev pub HasFields : List ℕ → Type 0
+HasFields body = (fields : List Field) × IsFields body fields
+
+abbrev pub HasFault : List ℕ → Type 0
+HasFault body = (fault : FieldError) × IsFirstFault body fault
+
+-- each body has a list of fields or a first fault, and never both
+abbrev pub HasOneOfBoth : Type 0
+HasOneOfBoth = (body : List ℕ) → (HasFields body ⊎ HasFault body) × ¬ (HasFields body × HasFault body)
+
+-- no body has two lists of fields, nor two first faults
+abbrev pub HasNoTwo : Type 0
+HasNoTwo =
+    ((body : List ℕ) (a b : List Field) → IsFields body a → IsFields body b → a ≡ b)
+    × ((body : List ℕ) (a b : FieldError) → IsFirstFault body a → IsFirstFault body b → a ≡ b)
+
+-- a text is read as a moment just where it is a timestamp of it
+abbrev pub StampsAsSpelled : Type 0
+StampsAsSpelled = (text : List ℕ) (ms : ℕ) → (moment_of text ≡ Some ms) ↔ IsStamp text ms
+
+-- what is written for a moment is read as it
+abbrev pub StampsReadAgain : Type 0
+StampsReadAgain = (ms : ℕ) → ms ≤ 253_402_300_799_999 → moment_of (stamp_of ms) ≡ Some ms
+
+-- counting off years and months undoes counting days, both ways
+abbrev pub CountsBothWays : Type 0
+CountsBothWays =
+    ((date : Date) → IsDate date → date_of_day (day_number date) ≡ date)
+    × ((day : ℕ) → day ≤ 2_932_896 → IsDate (date_of_day day) × (day_number (date_of_day day) ≡ day))

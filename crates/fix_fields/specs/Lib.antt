@@ -1,0 +1,13 @@
+-- What the contracts speak of.
+pub mod Body
+pub mod Builder
+pub mod Calendar
+pub mod Field
+pub mod FirstFault
+pub mod Fit
+pub mod Laws
+pub mod Number
+pub mod Options
+pub mod Pairs
+pub mod Reading
+pub mod Stamp

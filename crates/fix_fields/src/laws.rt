@@ -1,0 +1,40 @@
+//! Laws of the definitions that the contracts of this crate cite. The functions do nothing.
+
+ghost use Rattle.fix_fields.specs.Laws.{ReadsAsSpelled, FaultsAsFirst, HasOneOfBoth, HasNoTwo, StampsAsSpelled, StampsReadAgain, CountsBothWays};
+
+/// A body is read as a list of fields just where it is their texts, one after the other, and the
+/// fields are lawful.
+pub fn reads_as_spelled()
+    ensures { ReadsAsSpelled }
+{}
+
+/// A body is refused with a fault just where the fault stands behind the lawful fields at its front.
+pub fn faults_as_first()
+    ensures { FaultsAsFirst }
+{}
+
+/// Each body has a list of fields or a first fault, and never both.
+pub fn has_one_of_both()
+    ensures { HasOneOfBoth }
+{}
+
+/// No body has two lists of fields or two first faults.
+pub fn has_no_two()
+    ensures { HasNoTwo }
+{}
+
+/// A text is read as a moment just where it is a real date from 1970 to 9999, a dash and a time of
+/// day, with three decimals or none, and the moment is counted by calendar days.
+pub fn stamps_as_spelled()
+    ensures { StampsAsSpelled }
+{}
+
+/// What is written for a moment is read as that moment.
+pub fn stamps_read_again()
+    ensures { StampsReadAgain }
+{}
+
+/// The date of a day number has that number, and the day number of a date has that date.
+pub fn counts_both_ways()
+    ensures { CountsBothWays }
+{}
