@@ -1,0 +1,17 @@
+-- The command that words give.
+use Rattle.std.specs.Prelude.{◌≡◌, ◌==◌, ℕ, Bool, false, not, List, [], ◌∷◌, codes, IsTrue}
+use Rattle.gateway_run.specs.declared.words.Chosen.{Chosen}
+use Rattle.gateway_run.specs.declared.words.Chosen.TheVariants.{Replay}
+
+-- a word that may stand in a command: it isn't empty and doesn't begin with `-`
+abbrev pub is_word : List ℕ → Bool
+is_word [] = false
+is_word (b ∷ bytes) = not (b == 45)
+
+-- the words give this command: `replay` and a path
+pub record GivesReplay (words : List (List ℕ)) (path : List ℕ) : Type 0 where
+  pub words_are : words ≡ codes "replay" ∷ path ∷ []
+  pub path_is : IsTrue (is_word path)
+
+abbrev pub Gives : List (List ℕ) → Chosen → Type 0
+Gives words (Replay path) = GivesReplay words path

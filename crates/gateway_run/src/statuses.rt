@@ -1,0 +1,50 @@
+use std::fmt;
+
+/// How a top call ended.
+#[derive(Clone, Copy, Debug, PartialEq, Eq)]
+pub enum Status {
+    /// Every step was carried out and the report was written.
+    Ok,
+    /// Memory was wanting. Nothing was written.
+    OutOfMemory,
+    /// The words give no command.
+    Usage,
+    /// The script can't be read.
+    ReadFault,
+    /// The report can't be written whole. A beginning of it was.
+    WriteFault,
+    /// The script has a line that isn't built yet; line 0 says that the script as a whole isn't of
+    /// the form that is built.
+    Unbuilt { line: u32 },
+}
+
+impl Status {
+    /// The program's exit status.
+    pub fn code(&self) -> u8 {
+        match self {
+            Status::Ok => 0,
+            Status::OutOfMemory => 1,
+            Status::Usage => 2,
+            Status::ReadFault => 4,
+            Status::WriteFault => 5,
+            Status::Unbuilt { .. } => 8,
+        }
+    }
+}
+
+/// The line that the program prints to standard error, without its end. There is none for Ok.
+impl fmt::Display for Status {
+    fn fmt<W: fmt::Write>(&self, f: &mut fmt::Formatter<W>) -> fmt::Result {
+        match self {
+            Status::Ok => Ok(()),
+            Status::OutOfMemory => write!(f, "fixgate: out of memory"),
+            Status::Usage => write!(
+                f,
+                "usage: fixgate replay SCRIPT | drill N | serve SCRIPT ADDRESS TURNS"
+            ),
+            Status::ReadFault => write!(f, "fixgate: cannot read the script"),
+            Status::WriteFault => write!(f, "fixgate: cannot write the report"),
+            Status::Unbuilt { line } => write!(f, "fixgate: line {line} not built"),
+        }
+    }
+}

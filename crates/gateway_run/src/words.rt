@@ -1,0 +1,78 @@
+//! The command that the words behind the program's name give.
+
+ghost use Rattle.std.specs.Prelude.{◌≡◌, ◌↔◌, IfOk, IsErrOf, IsTrue, codes, map, string_bytes};
+ghost use Rattle.gateway_run.specs.declared.words.Chosen.{Chosen};
+ghost use Rattle.gateway_run.specs.declared.words.WordsError.TheVariants.{OutOfMemory};
+ghost use Rattle.gateway_run.specs.Words.{Gives, is_word};
+
+use gate_io::Label;
+use std::alloc::{AllocError, Global};
+use std::error::Error;
+use std::fmt;
+
+/// A command.
+#[derive(Debug, Drop)]
+pub enum Chosen {
+    /// Carry out the script in this file on one thread.
+    Replay { path: Label },
+}
+
+/// Why the words give no command.
+#[derive(Clone, Copy, Debug, PartialEq, Eq)]
+pub enum WordsError {
+    OutOfMemory,
+    /// They are none of the commands.
+    Usage,
+}
+
+impl fmt::Display for WordsError {
+    fn fmt<W: fmt::Write>(&self, f: &mut fmt::Formatter<W>) -> fmt::Result {
+        match self {
+            WordsError::OutOfMemory => write!(f, "out of memory"),
+            WordsError::Usage => write!(f, "the words give no command"),
+        }
+    }
+}
+
+impl Error for WordsError {}
+
+impl From<AllocError> for WordsError {
+    ghost from_gives = { λ _ e. e ≡ OutOfMemory };
+
+    fn from(_e: AllocError) -> WordsError {
+        WordsError::OutOfMemory
+    }
+}
+
+/// The command that the words give, those behind the program's name: `replay` and a path. No word
+/// may be empty or begin with `-`.
+pub fn command_of(alloc: Global, words: &[String]) -> Result<Chosen, WordsError>
+    ensures chosen { IfOk result (Gives (map string_bytes words.now)) }
+    ensures usage { IsErrOf result WordsError.Usage → (chosen : Chosen) → Gives (map string_bytes words.now) chosen → ⊥ }
+{
+    let [command, path] = words else {
+        return Err(WordsError::Usage);
+    };
+    if !is_replay(command.as_str()) || !is_word(path.as_str()) {
+        return Err(WordsError::Usage);
+    }
+    Ok(Chosen::Replay {
+        path: Label::of(String::from_str(alloc, path.as_str())?),
+    })
+}
+
+fn is_replay(word: &str) -> bool
+    ensures { IsTrue result ↔ (word.now ≡ codes "replay") }
+{
+    word == "replay"
+}
+
+/// Whether a word may stand in a command: it isn't empty and doesn't begin with `-`.
+fn is_word(word: &str) -> bool
+    ensures { result ≡ is_word word.now }
+{
+    match word.as_bytes() {
+        [] => false,
+        [first, ..] => *first != b'-',
+    }
+}
