@@ -1,9 +1,9 @@
 -- What the bytes of a connection are cut into, with one case for each place.
-use Rattle.std.specs.Prelude.{◌≡◌, ℕ, zero, suc, ◌+◌, ◌-◌, ◌*◌, ◌<◌, Bool, true, ◌&&◌, ◌||◌, if◌then◌else◌, ◌==◌, nat_le, nat_lt, List, [], ◌∷◌, ◌++◌, length, map, take, drop, replicate, codes, Option, None, Some}
+use Rattle.std.specs.Prelude.{◌≡◌, ◌≤◌, ℕ, zero, suc, ◌+◌, ◌-◌, ◌*◌, ◌<◌, Bool, true, ◌&&◌, ◌||◌, if◌then◌else◌, ◌==◌, nat_le, nat_lt, List, [], ◌∷◌, ◌++◌, length, map, take, drop, replicate, codes, Option, None, Some}
 use Rattle.std.specs.Char.{is_ascii_digit}
 use Rattle.std.specs.List.{list_any}
 use Rattle.std.specs.Option.{option_map_or}
-use Rattle.fix_frame.specs.Frame.{head, number_of, stretch_of, checksum}
+use Rattle.fix_frame.specs.Frame.{head, number_of, stretch_of, checksum, IsBody}
 
 -- a piece: a good frame's body, or so many garbled bytes
 pub data CutPiece : Type 0 where
@@ -110,13 +110,23 @@ cut limit bytes = cut_behind limit zero bytes
 abbrev pub behind : List CutPiece → Cut → Cut
 behind given later = record { pieces = given ++ later.pieces; rest = later.rest }
 
+-- a piece as a limit allows it: a body that can be written, or some bytes
+abbrev pub IsPiece : ℕ → CutPiece → Type 0
+IsPiece limit (good body) = IsBody body × (length body < limit)
+IsPiece limit (garbled size) = (0 < size) × (size ≤ limit)
+
 -- the first piece of the old bytes, and the new bytes, which lie behind it
 pub record TakesPiece (limit : ℕ) (old : List ℕ) (piece : CutPiece) (new : List ℕ) : Type 0 where
+  -- how many bytes it takes
   pub size : ℕ
   pub found : piece_at limit old ≡ Some (record { piece = piece; size = size })
   pub left : new ≡ drop size old
-  pub shorter : length new < length old
   pub goes_on : cut limit old ≡ onto piece (cut limit new)
+  pub least : 0 < size
+  pub most : size ≤ limit
+  pub adds_up : size + length new ≡ length old
+  pub garbled_size : (n : ℕ) → piece ≡ garbled n → n ≡ size
+  pub good_body : (body : List ℕ) → piece ≡ good body → IsBody body × (length body < size)
 
 -- the cut of a text is the pieces that were given so far, and behind them the cut of the bytes that are held
 pub record IsCutSoFar (limit : ℕ) (text : List ℕ) (given : List CutPiece) (held : List ℕ) : Type 0 where

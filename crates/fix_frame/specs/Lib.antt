@@ -7,3 +7,4 @@ pub mod Cutting
 pub mod Inside
 pub mod Loans
 pub mod Rows
+pub mod Printed

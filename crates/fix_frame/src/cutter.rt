@@ -1,9 +1,9 @@
 //! Cutting the bytes of a connection into frames.
 
-ghost use Rattle.std.specs.Prelude.{◌≡◌, ◌≤◌, ◌↔◌, ◌+◌, [], ◌++◌, List, ℕ, IfOk, IfNone, IsNone, length, option_map};
+ghost use Rattle.std.specs.Prelude.{◌≡◌, ◌≤◌, ◌↔◌, ◌+◌, [], ◌++◌, List, ℕ, IfOk, IfNone, IfSome, IsNone, length, option_map};
 ghost use Rattle.std.specs.Borrow.{sem};
 ghost use Rattle.fix_frame.specs.Frame.{IsCheckField, number_of};
-ghost use Rattle.fix_frame.specs.Cut.{CutPiece, IsCutSoFar, cut, piece_at, piece_of};
+ghost use Rattle.fix_frame.specs.Cut.{CutPiece, IsCutSoFar, IsPiece, cut, piece_at, piece_of};
 ghost use Rattle.fix_frame.specs.Look.{IsStretchText};
 ghost use Rattle.fix_frame.specs.Cutting.{free, seen};
 ghost use Rattle.fix_frame.specs.Loans.{GivesNext};
@@ -93,6 +93,7 @@ impl Cutter {
         ensures piece { option_map seen result ≡ option_map (λ found. found.piece) (piece_at self.old.limit self.old.held) }
         ensures none { IsNone result ↔ ((cut self.old.limit self.old.held).pieces ≡ []) }
         ensures room { IfNone result (LEAST_ROOM ≤ free self.old) }
+        ensures lawful { IfSome result (λ piece. IsPiece self.old.limit (seen piece)) }
         // The piece has gone, and what was given so far goes on with it; where there is none nothing changed.
         ensures* after_loan { sem 𝓛 (GivesNext self.entry result) }
     {

@@ -1,9 +1,10 @@
 //! Putting a body into a frame.
 
-ghost use Rattle.std.specs.Prelude.{◌≡◌, ◌≢◌, ◌+◌, ◌*◌, ◌^◌, ◌<◌, ◌≤◌, ◌↔◌, ◌++◌, ◌∷◌, [], List, ℕ, IfOk, OnOk, IsErrOf, IsTrue, decimal, length};
+ghost use Rattle.std.specs.Prelude.{◌≡◌, ◌≢◌, ◌+◌, ◌*◌, ◌^◌, ◌<◌, ◌≤◌, ◌↔◌, ◌++◌, ◌∷◌, [], List, ℕ, Some, IfOk, OnOk, IsTrue, decimal, length};
 ghost use Rattle.fix_frame.specs.declared.write.FrameError.TheVariants.{OutOfMemory};
 ghost use Rattle.fix_frame.specs.Frame.{IsBody, frame_of, three_digits};
 ghost use Rattle.fix_frame.specs.Cut.{cut, good, onto};
+ghost use Rattle.fix_frame.specs.Printed.{text_of};
 
 use crate::layout::{BODY_END, BODY_START, HEAD, LONGEST_FRAME, SOH, TRAILER, checksum};
 use std::alloc::{AllocError, AllocFailed, Global};
@@ -20,6 +21,8 @@ pub enum FrameError {
 }
 
 impl fmt::Display for FrameError {
+    ghost output = { λ e. Some (text_of e) };
+
     fn fmt<W: fmt::Write>(&self, f: &mut fmt::Formatter<W>) -> fmt::Result {
         match self {
             FrameError::TooLong { length } => { write!(f, "a frame of {length} bytes is too long") }

@@ -1,10 +1,10 @@
-use Rattle.std.proofs.Common.{◌≡◌, ℕ, length, drop, refl, ap, ◌∙◌, arith, Some, length-take}
+use Rattle.std.proofs.Common.{◌≡◌, ℕ, length, drop, refl, sym, subst, ap, ◌∙◌, arith, Some, length-take}
 use Rattle.fix_frame.specs.Store.{Store}
 use Rattle.fix_frame.specs.Frame.{stretch_of}
-use Rattle.fix_frame.specs.Cut.{waiting, stray, standing_at, CutPiece, garbled, piece_of}
+use Rattle.fix_frame.specs.Cut.{waiting, stray, standing_at, CutPiece, IsPiece, garbled, piece_of}
 use Rattle.fix_frame.specs.Cutting.{seen}
 use Rattle.fix_frame.specs.Look.{IsStretch, IsStretchText}
-use Rattle.fix_frame.proofs.Nexts.{none_after, none_piece, none_cut, none_room, some_stray, stray_stands, whole_stands, some_piece, some_cut, some_after, quiet-now}
+use Rattle.fix_frame.proofs.Nexts.{none_after, none_piece, none_cut, none_room, some_stray, stray_stands, whole_stands, some_piece, some_cut, some_after, is_piece, quiet-now}
 use Rattle.fix_frame.proofs.cutter.Cutter.next.Goals as goal
 
 pub returns-then-len-self : goal.returns-then-len-self
@@ -17,6 +17,7 @@ returns-then-len-self c =
         piece = none_piece s.limit s.ring.bytes e;
         none = (λ _. none_cut s.limit s.ring.bytes e, λ _. refl);
         room = none_room s.limit s.ring.bytes e;
+        lawful = tt;
         after_loan = tt;
       },
     )
@@ -36,6 +37,7 @@ returns-in-Rest c =
         piece = none_piece s.limit s.ring.bytes e;
         none = (λ _. none_cut s.limit s.ring.bytes e, λ _. refl);
         room = none_room s.limit s.ring.bytes e;
+        lawful = tt;
         after_loan = tt;
       },
     )
@@ -51,6 +53,7 @@ returns-in-Stray c =
         piece = some_piece s.limit s.ring.bytes (garbled 1) 1 h;
         none = (λ e. absurd cc, some_cut s.limit s.ring.bytes (garbled 1) 1 h);
         room = tt;
+        lawful = is_piece s.limit s.ring.bytes (garbled 1) 1 h;
         after_loan = tt;
       },
     )
@@ -73,6 +76,7 @@ returns-in-Shaped c =
         piece = ap (λ (q : CutPiece). Some q) given ∙ some_piece s.limit s.ring.bytes piece stretch h;
         none = (λ e. absurd cc, some_cut s.limit s.ring.bytes piece stretch h);
         room = tt;
+        lawful = subst (IsPiece s.limit) (sym given) (is_piece s.limit s.ring.bytes piece stretch h);
         after_loan = tt;
       },
     )
