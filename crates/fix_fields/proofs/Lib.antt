@@ -4,6 +4,7 @@ pub mod Drafts
 pub mod Faults
 pub mod Numbers
 pub mod OneField
+pub mod Plain
 mod Rows
 pub mod Splits
 pub mod Stamps

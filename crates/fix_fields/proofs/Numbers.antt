@@ -138,3 +138,15 @@ tag_of-decimal tag from to =
       bound = omega arith;
     } in
     rw (short, no_zero) (number_of-from _ _ is)
+
+-- what std writes for a number is one
+pub number_of-decimal : (n : ℕ) → n ≤ 4_294_967_295 → number_of (decimal n) ≡ Some n
+number_of-decimal n low =
+    let fits : n < 2 ^ 64 = omega arith in
+    number_of-from _ _ (record {
+      filled = decimal_nonempty n fits;
+      short = omega (arith, length-decimal-le 10 n (lit< tt) (omega arith) fits);
+      digits = digits_decimal own n fits;
+      value = digits_value-decimal own n fits;
+      bound = low;
+    })

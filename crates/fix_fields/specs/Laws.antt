@@ -1,9 +1,10 @@
 -- What holds of the definitions.
-use Rattle.std.specs.Prelude.{◌≡◌, ◌↔◌, ◌⊎◌, ℕ, ◌≤◌, List, Some, Ok, Err}
+use Rattle.std.specs.Prelude.{◌≡◌, ◌↔◌, ◌⊎◌, ℕ, ◌^◌, ◌<◌, ◌≤◌, false, List, Some, Ok, Err, decimal}
 use Rattle.fix_fields.specs.Body.{IsFields}
 use Rattle.fix_fields.specs.Calendar.{Date, IsDate, day_number}
-use Rattle.fix_fields.specs.Field.{Field}
+use Rattle.fix_fields.specs.Field.{Field, has_soh}
 use Rattle.fix_fields.specs.FirstFault.{IsFirstFault}
+use Rattle.fix_fields.specs.Number.{number_of}
 use Rattle.fix_fields.specs.Reading.{fields_of}
 use Rattle.fix_fields.specs.Stamp.{date_of_day, moment_of, stamp_of, IsStamp}
 use Rattle.fix_fields.specs.declared.error.FieldError.{FieldError}
@@ -45,3 +46,13 @@ abbrev pub CountsBothWays : Type 0
 CountsBothWays =
     ((date : Date) → IsDate date → date_of_day (day_number date) ≡ date)
     × ((day : ℕ) → day ≤ 2_932_896 → IsDate (date_of_day day) × (day_number (date_of_day day) ≡ day))
+
+-- what std writes for a number of 32 bits is read as it
+abbrev pub NumbersReadAgain : Type 0
+NumbersReadAgain = (n : ℕ) → n ≤ 4_294_967_295 → number_of (decimal n) ≡ Some n
+
+-- the text of a number and of a moment may be the value of any field: it has no SOH
+abbrev pub TextsArePlain : Type 0
+TextsArePlain =
+    ((n : ℕ) → n < 2 ^ 64 → has_soh (decimal n) ≡ false)
+    × ((ms : ℕ) → has_soh (stamp_of ms) ≡ false)

@@ -1,6 +1,6 @@
 //! Laws of the definitions that the contracts of this crate cite. The functions do nothing.
 
-ghost use Rattle.fix_fields.specs.Laws.{ReadsAsSpelled, FaultsAsFirst, HasOneOfBoth, HasNoTwo, StampsAsSpelled, StampsReadAgain, CountsBothWays};
+ghost use Rattle.fix_fields.specs.Laws.{ReadsAsSpelled, FaultsAsFirst, HasOneOfBoth, HasNoTwo, StampsAsSpelled, StampsReadAgain, CountsBothWays, NumbersReadAgain, TextsArePlain};
 
 /// A body is read as a list of fields just where it is their texts, one after the other, and the
 /// fields are lawful.
@@ -37,4 +37,14 @@ pub fn stamps_read_again()
 /// The date of a day number has that number, and the day number of a date has that date.
 pub fn counts_both_ways()
     ensures { CountsBothWays }
+{}
+
+/// What is written for a number of 32 bits, in decimal without leading zeros, is read as that number.
+pub fn numbers_read_again()
+    ensures { NumbersReadAgain }
+{}
+
+/// The text of a number or of a moment has no SOH, so it may be the value of any field.
+pub fn texts_are_plain()
+    ensures { TextsArePlain }
 {}

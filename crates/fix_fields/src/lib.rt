@@ -25,4 +25,4 @@ pub use fields::Fields;
 pub use fit::{check_body, is_session_type};
 pub use number::read_number;
 pub use pairs::{data_tag_of, is_paired};
-pub use stamp::{LAST_MOMENT, read_stamp, stamp_text};
+pub use stamp::{read_stamp, stamp_text};

@@ -1,5 +1,5 @@
-ghost use Rattle.std.specs.Prelude.{◌≡◌, ◌<◌, length, IfOk, IfSome};
-ghost use Rattle.std.specs.Option.{option_map, option_and_then};
+ghost use Rattle.std.specs.Prelude.{◌≡◌};
+ghost use Rattle.std.specs.Option.{option_and_then};
 ghost use Rattle.fix_fields.specs.Number.{number_of};
 ghost use Rattle.fix_fields.specs.Reading.{fault_at, field_at, value_at, split_at_equals, split_at_soh, split_after, lent, lent_value, lent_field};
 

@@ -3,9 +3,7 @@ ghost use Rattle.fix_fields.specs.Stamp.{stamp_of, moment_of, day_in, second_in,
 
 use crate::calendar::{date_of, day_of};
 use crate::number::read_number;
-
-/// The last moment that a timestamp can have: the last millisecond of the year 9999.
-pub const LAST_MOMENT: u64 = 253_402_300_799_999;
+use gate_io::LAST_MOMENT;
 
 const DAY_SECONDS: u64 = 86_400;
 

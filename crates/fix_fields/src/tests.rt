@@ -1,7 +1,8 @@
 use crate::{
-    Builder, FieldError, Fields, LAST_MOMENT, check_body, data_tag_of, is_paired, read_number,
-    read_stamp, stamp_text,
+    Builder, FieldError, Fields, check_body, data_tag_of, is_paired, read_number, read_stamp,
+    stamp_text,
 };
+use gate_io::LAST_MOMENT;
 use std::test::Fail;
 
 /// The bytes of a text in which `|` stands for SOH.
