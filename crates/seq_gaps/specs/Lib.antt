@@ -1,0 +1,5 @@
+pub mod Line
+pub mod Offers
+pub mod Calls
+pub mod Early
+pub mod Plain
