@@ -1,0 +1,78 @@
+#!/usr/bin/env python3
+"""How fast the byte layers are: streams of good frames and hostile ones, cut and read.
+
+For each stream it prints megabytes a second of the cut (and, for good frames, messages a second with their fields
+read) beside the time in which bench/scan_bytes.c passes once over the same bytes, in the same run, as a ratio. Each
+figure is the best of three. Nothing depends on the numbers but the reader.
+"""
+import os
+import subprocess
+import tempfile
+
+ROOT = os.path.dirname(os.path.dirname(os.path.abspath(__file__)))
+CRATE = os.path.join(ROOT, "crates", "byte_speed")
+PROGRAM = os.path.join(CRATE, "out", "byte_speed")
+SIZE = 16_000_000
+
+
+def frame(body):
+    head = b"8=FIX.4.4\x019=%d\x01" % len(body) + body
+    return head + b"10=%03d\x01" % (sum(head) % 256)
+
+
+def order(length):
+    """A new order with a body of this many bytes, or a few more."""
+    body = b"35=D\x0149=BUYER\x0156=GATE\x0134=2\x0152=20260105-09:30:00.000\x0111=ORDER1\x01"
+    more = [b"55=ACME\x01", b"54=1\x01", b"38=100\x01", b"40=2\x01", b"44=101.25\x01", b"1=ACCOUNT7\x01", b"59=0\x01"]
+    at = 0
+    while len(body) < length:
+        body += more[at % len(more)]
+        at += 1
+    return body
+
+
+def repeated(unit):
+    return unit * (SIZE // len(unit))
+
+
+STREAMS = {
+    "frames with bodies of 80 bytes": (repeated(frame(order(80))), True),
+    "frames with bodies of 250 bytes": (repeated(frame(order(250))), True),
+    "a stray byte before each frame": (repeated(b"8" + frame(order(80))), False),
+    "frames with wrong sums": (repeated(frame(order(80))[:-4] + b"999\x01"), False),
+    "heads alone": (repeated(b"8=FIX.4.4\x019="), False),
+    "lengths of bodies that never come": (repeated(b"8=FIX.4.4\x019=65000\x0135="), False),
+    "the byte 8": (repeated(b"8"), False),
+    "the byte x": (repeated(b"x"), False),
+}
+
+
+def nanoseconds(command):
+    return min(int(subprocess.run(command, stdout=subprocess.PIPE, check=True).stdout.split()[0]) for _ in range(3))
+
+
+def main():
+    subprocess.run(["rt", "run"], cwd=CRATE, stdout=subprocess.DEVNULL, stderr=subprocess.DEVNULL, check=True)
+    with tempfile.TemporaryDirectory() as folder:
+        scan = os.path.join(folder, "scan")
+        subprocess.run(["cc", "-O2", "-o", scan, os.path.join(ROOT, "bench", "scan_bytes.c")], check=True)
+        for name, (stream, good) in STREAMS.items():
+            path = os.path.join(folder, "stream")
+            with open(path, "wb") as file:
+                file.write(stream)
+            scanned = nanoseconds([scan, path])
+            cut = nanoseconds([PROGRAM, "cut", path, "4096"])
+            bytewise = nanoseconds([PROGRAM, "cut", path, "1"])
+            line = (
+                f"{name}: cut {len(stream) * 1e3 / cut:.0f} MB a second, {cut / scanned:.1f} times the scan; "
+                f"fed byte by byte {bytewise / scanned:.1f} times"
+            )
+            if good:
+                read = nanoseconds([PROGRAM, "read", path, "4096"])
+                messages = stream.count(b"\x0135=")
+                line += f"; with fields {messages * 1e9 / read:,.0f} messages a second, {read / scanned:.1f} times"
+            print(line)
+
+
+if __name__ == "__main__":
+    main()
