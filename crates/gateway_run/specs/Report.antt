@@ -1,5 +1,5 @@
 -- The text of a run's record.
-use Rattle.std.specs.Prelude.{ℕ, ◌+◌, ◌-◌, max, if◌then◌else◌, ◌==◌, List, [], ◌∷◌, ◌++◌, length, fold, decimal, codes, slice_index_or, Option, None, Some}
+use Rattle.std.specs.Prelude.{ℕ, ◌+◌, ◌-◌, max, List, [], ◌∷◌, ◌++◌, length, decimal, codes, slice_index_or, Option, None, Some}
 use Rattle.std.specs.List.{flat_map}
 use Rattle.gateway_run.specs.Printed.{printed}
 use Rattle.gateway_run.specs.Lines.{spaced, indented, line, numbered, stamp_word}

@@ -1,5 +1,5 @@
 -- How the engine's connection stands on the wire between two turns.
-use Rattle.std.specs.Prelude.{◌≡◌, ℕ, ◌<◌, ◌≤◌, Option, None, Some}
+use Rattle.std.specs.Prelude.{◌≡◌, ℕ, ◌≤◌, Option, None, Some}
 use Rattle.fix_frame.specs.Cutting.{free}
 use Rattle.gate_io.specs.Wire.{Link, Door, IsOpen}
 use Rattle.gateway_run.specs.declared.connections.Connection.{Connection}

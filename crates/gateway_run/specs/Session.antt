@@ -1,6 +1,6 @@
 -- The session protocol of FIX 4.4, volume 2, as far as this form of it goes: what a message asks for. A field is told
 -- by its first occurrence in the body.
-use Rattle.std.specs.Prelude.{ℕ, ◌+◌, nat_le, nat_eq, Bool, true, false, not, ◌&&◌, ◌||◌, ◌==◌, List, codes, Option, None, Some, Result, Ok, Err, is_none, if◌then◌else◌}
+use Rattle.std.specs.Prelude.{ℕ, ◌+◌, nat_le, nat_eq, Bool, false, not, ◌&&◌, ◌||◌, ◌==◌, List, codes, Option, None, Some, Result, Ok, Err, is_none, if◌then◌else◌}
 use Rattle.std.specs.Option.{option_map_or}
 use Rattle.std.specs.Cmp.Lexicographic.{pointwise}
 use Rattle.fix_fields.specs.Field.{Field}

@@ -1,4 +1,4 @@
-use Rattle.std.proofs.Common.{◌<◌, ◌^◌, length, arith, sym}
+use Rattle.std.proofs.Common.{◌<◌, ◌^◌, arith}
 use Rattle.std.proofs.lemmas.Fmt.{decimal_nonempty}
 use Rattle.gateway_run.proofs.Digits.{has_soh-decimal}
 use Rattle.gateway_run.proofs.desk.logon_body.Goals as goal

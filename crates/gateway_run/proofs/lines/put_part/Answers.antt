@@ -1,6 +1,6 @@
-use Rattle.std.proofs.Common.{◌++◌, ◌∙◌, ap, refl}
+use Rattle.std.proofs.Common.{◌++◌, ◌∙◌, ap}
 use Rattle.fix_fields.specs.Stamp.{stamp_of}
-use Rattle.gateway_run.specs.Lines.{part_text, stamp_word}
+use Rattle.gateway_run.specs.Lines.{stamp_word}
 use Rattle.gateway_run.proofs.lines.put_part.Goals as goal
 
 pub returns-in_ok-extend_from_slice-in-Stamp : goal.returns-in_ok-extend_from_slice-in-Stamp

@@ -1,4 +1,4 @@
-use Rattle.std.proofs.Common.{◌++◌, append_assoc}
+use Rattle.std.proofs.Common.{append_assoc}
 use Rattle.gateway_run.specs.Report.{connection_numbers}
 use Rattle.gateway_run.proofs.report.put_numbers.Goals as goal
 
