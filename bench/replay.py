@@ -14,6 +14,8 @@ import time
 
 ROOT = os.path.dirname(os.path.dirname(os.path.abspath(__file__)))
 FIXGATE = os.path.join(ROOT, "fixgate")
+# The program itself: the starter compares the sources first, which is no part of the replay.
+PROGRAM = os.path.join(ROOT, "crates", "gateway_cli", "out", "gateway_cli")
 STAMP = "20260105-09:30:00.000"
 MOST = 16_777_216
 READ = 4096
@@ -65,7 +67,7 @@ def measure(folder, scan, messages):
     text = script(messages)
     with open(path, "w") as file:
         file.write(text)
-    replayed = best_of_three([FIXGATE, "replay", path])
+    replayed = best_of_three([PROGRAM, "replay", path])
     scanned = best_of_three([scan, path])
     print(
         f"{messages} messages, {len(text)} bytes: replay {replayed:.3f} s, "
