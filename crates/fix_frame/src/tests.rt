@@ -140,7 +140,7 @@ fn every_cut_of_a_stream_gives_its_pieces(rt: HostRuntime) -> Result<(), Fail> {
         "11|35=0|10=",
     ];
     let mut seed = 7u32;
-    for _ in 0..120 {
+    for _ in 0..300 {
         let mut stream = Vec::new(rt.alloc());
         for _ in 0..4 {
             seed = seed.wrapping_mul(1_664_525).wrapping_add(1_013_904_223);
