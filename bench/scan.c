@@ -1,26 +1,13 @@
 /* The yardstick of bench/replay.py: reads a script, and for each frame line finds the fields of its
    text and adds up every byte. */
-#include <stdio.h>
-#include <stdlib.h>
+#include "read_file.h"
+
 #include <string.h>
 
 int main(int argc, char **argv) {
-    if (argc != 2) return 2;
-    FILE *file = fopen(argv[1], "rb");
-    if (!file) return 4;
-    size_t room = 1 << 16, length = 0;
-    unsigned char *text = malloc(room);
-    for (;;) {
-        if (!text) return 1;
-        size_t got = fread(text + length, 1, room - length, file);
-        length += got;
-        if (got == 0) break;
-        if (length == room) text = realloc(text, room *= 2);
-    }
-    fclose(file);
-
+    struct text text = read_file(argc, argv);
     unsigned long frames = 0, fields = 0, sum = 0;
-    const unsigned char *at = text, *end = text + length;
+    const unsigned char *at = text.bytes, *end = text.bytes + text.length;
     while (at < end) {
         const unsigned char *stop = memchr(at, '\n', end - at);
         if (!stop) stop = end;
@@ -38,6 +25,6 @@ int main(int argc, char **argv) {
         at = stop + 1;
     }
     printf("frames %lu fields %lu sum %lu\n", frames, fields, sum);
-    free(text);
+    free(text.bytes);
     return 0;
 }
