@@ -1,5 +1,6 @@
 pub mod Counts
 pub mod Source
+pub mod FileSource
 pub mod Sink
 pub mod Wire
 pub mod MemSource

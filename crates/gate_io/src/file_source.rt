@@ -1,9 +1,11 @@
-ghost use Rattle.std.specs.Prelude.{◌≡◌, ◌≤◌, None, IfOk, length};
+ghost use Rattle.std.specs.Prelude.{◌≡◌, ◌≤◌, false, None, IfOk, length, string_bytes};
+ghost use Rattle.gate_io.specs.FileSource.{FileState};
 
 use crate::sources::{Got, Source};
 use std::fs::File;
 use std::io;
 use std::io::Read;
+use std::marker::Model;
 use std::rt::Files;
 
 /// A file as a source. The file is taken at the first read, and a file that can't be opened is a
@@ -17,8 +19,21 @@ pub struct FileSource<R: Files> {
     ends: u64,
 }
 
+impl<R: Files> Model for FileSource<R> {
+    ghost use Rattle.std.specs.Prelude.{string_bytes};
+    ghost use Rattle.std.specs.Option.{is_some};
+    ghost use Rattle.gate_io.specs.FileSource.{FileState};
+
+    ghost Value = { FileState };
+
+    ghost view = { λ s. record { path = string_bytes s.path; opened = is_some s.file; faults = s.faults; ends = s.ends } };
+}
+
 impl<R: Files> FileSource<R> {
-    pub fn new(rt: R, path: String) -> FileSource<R> {
+    /// A source over the file at this path, which isn't opened yet.
+    pub fn new(rt: R, path: String) -> FileSource<R>
+        ensures { result ≡ record { path = string_bytes path; opened = false; faults = 0; ends = 0 } }
+    {
         FileSource {
             rt,
             path,

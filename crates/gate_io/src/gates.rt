@@ -15,7 +15,9 @@ pub trait Gate {
 pub struct OpenGate {}
 
 impl OpenGate {
-    pub fn new() -> OpenGate {
+    pub fn new() -> OpenGate
+        ensures { result ≡ record { } }
+    {
         OpenGate {}
     }
 }

@@ -3,6 +3,7 @@ ghost use Rattle.std.specs.Prelude.{◌≡◌, None};
 use crate::sinks::{Sink, Wrote};
 use std::io;
 use std::io::Write;
+use std::marker::Model;
 
 /// Standard output as a sink. Nothing is known of its bytes.
 #[derive(Drop)]
@@ -11,8 +12,19 @@ pub struct StdSink<R: Print> {
     faults: u64,
 }
 
+impl<R: Print> Model for StdSink<R> {
+    ghost use Rattle.std.specs.Prelude.{ℕ};
+
+    ghost Value = { ℕ };
+
+    ghost view = { λ s. s.faults };
+}
+
 impl<R: Print> StdSink<R> {
-    pub fn new(rt: R) -> StdSink<R> {
+    /// A sink of which no write failed yet. Contracts see the number of those that did.
+    pub fn new(rt: R) -> StdSink<R>
+        ensures { result ≡ 0 }
+    {
         StdSink { rt, faults: 0 }
     }
 }
@@ -20,7 +32,7 @@ impl<R: Print> StdSink<R> {
 impl<R: Print> Sink for StdSink<R> {
     ghost held = { λ _. None };
 
-    ghost faults = { λ s. s.faults };
+    ghost faults = { λ s. s };
 
     fn write(&mut self, piece: &[u8]) -> Wrote {
         match io::writer(&self.rt).write(piece) {
