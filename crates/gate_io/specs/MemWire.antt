@@ -1,4 +1,4 @@
-use Rattle.std.specs.Prelude.{◌≡◌, ℕ, ◌==◌, ◌-◌, ◌≤◌, Bool, false, ◌||◌, List, [], ◌++◌, Some, length, take, drop, map, min, max, slice_index_or, slice_set, if◌then◌else◌}
+use Rattle.std.specs.Prelude.{◌≡◌, ℕ, ◌+◌, ◌==◌, ◌-◌, ◌≤◌, Bool, false, ◌||◌, List, [], ◌++◌, Some, length, take, drop, map, min, max, slice_index_or, slice_set, if◌then◌else◌}
 use Rattle.gate_io.specs.Counts.{one_more}
 use Rattle.gate_io.specs.Wire.{Link, Door}
 use Rattle.gate_io.specs.declared.wires.WireGot.{WireGot}
@@ -77,6 +77,12 @@ door_of w = record { accepted = w.accepted; listen_faults = 0; accept_faults = 0
 -- what an accept gives, and the wire behind it
 abbrev pub wire_accepts : WireState → Accepted
 wire_accepts w = if w.accepted == length w.links then accept.Nothing else accept.New w.accepted
+
+-- the wire behind an accept with that answer
+abbrev pub wire_after_accept : WireState → Accepted → WireState
+wire_after_accept w (accept.New c) = record w { accepted = w.accepted + 1 }
+wire_after_accept w accept.Nothing = record w { idle_accepts = one_more w.idle_accepts }
+wire_after_accept w accept.Failed = w
 
 -- connection c, as a new one where it hasn't come yet
 abbrev pub state_at : WireState → ℕ → LinkState

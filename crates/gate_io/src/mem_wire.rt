@@ -1,6 +1,6 @@
 ghost use Rattle.std.specs.Prelude.{◌≡◌, ◌<◌, ◌≤◌, ◌+◌, ℕ, [], ◌∷◌, ◌++◌, true, false, map, length, OnOk, OnErr, IfOk};
 ghost use Rattle.gate_io.specs.Wire.{OthersStay, IsOpen};
-ghost use Rattle.gate_io.specs.MemWire.{LinkState, WireState, new_link, link_given, link_reserved, link_gives, link_after_read, link_takes, link_after_write, link_at, door_of, wire_accepts, state_at, with_link, without_room, SameButRoom};
+ghost use Rattle.gate_io.specs.MemWire.{LinkState, WireState, new_link, link_given, link_reserved, link_gives, link_after_read, link_takes, link_after_write, link_at, door_of, wire_accepts, wire_after_accept, state_at, with_link, without_room, SameButRoom};
 
 use crate::mem_link::MemLink;
 use crate::no_memory::NoMemory;
@@ -103,7 +103,7 @@ impl Wire for MemWire {
 
     ghost write_gives = { λ before c piece answer after. (answer ≡ link_takes (state_at before c) (length piece)) × (after ≡ with_link before c (link_after_write (state_at before c) piece answer)) };
 
-    ghost accept_gives = { λ before answer after. answer ≡ wire_accepts before };
+    ghost accept_gives = { λ before answer after. (answer ≡ wire_accepts before) × (after ≡ wire_after_accept before answer) };
 
     fn listen(&mut self, _address: &str) -> Listened {
         Listened::Ready
