@@ -1,5 +1,5 @@
 ghost use Rattle.std.specs.Prelude.{◌≡◌, ◌<◌, ◌≤◌, ◌+◌, ℕ, [], ◌∷◌, ◌++◌, true, false, map, length, OnOk, OnErr, IfOk};
-ghost use Rattle.gate_io.specs.Wire.{OthersStay, IsOpen};
+ghost use Rattle.gate_io.specs.Wire.{LinkGoesOn, OthersStay, IsOpen};
 ghost use Rattle.gate_io.specs.MemWire.{LinkState, WireState, new_link, link_given, link_reserved, link_gives, link_after_read, link_takes, link_after_write, link_at, door_of, wire_accepts, wire_after_accept, state_at, with_link, without_room, SameButRoom};
 
 use crate::mem_link::MemLink;
@@ -129,7 +129,15 @@ impl Wire for MemWire {
         link.write(piece)
     }
 
-    fn close(&mut self, c: u32) {
+    fn close(&mut self, c: u32)
+        requires { IsOpen (door_of self.old) (link_at self.old) c }
+        ensures after { self.new ≡ with_link self.old c (record (state_at self.old c) { closed = true }) }
+        ensures closed { (link_at self.new c).closed ≡ true }
+        ensures written_stays { (link_at self.new c).written ≡ (link_at self.old c).written }
+        ensures goes_on { LinkGoesOn (link_at self.old c) (link_at self.new c) }
+        ensures door_stays { door_of self.new ≡ door_of self.old }
+        ensures others_stay { OthersStay (link_at self.old) (link_at self.new) c }
+    {
         let link = &mut self.links[c as usize];
         link.close();
     }
