@@ -16,7 +16,7 @@ pub struct OpenGate {}
 
 impl OpenGate {
     pub fn new() -> OpenGate
-        ensures { result ≡ record { } }
+        ensures { result ≡ record {} }
     {
         OpenGate {}
     }
