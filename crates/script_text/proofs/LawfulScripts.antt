@@ -1,0 +1,351 @@
+-- Each script that is read is lawful.
+use Rattle.std.proofs.Common.{◌≡◌, ◌≢◌, ℕ, suc, ◌<◌, Bool, true, false, not, List, [], ◌∷◌, ◌++◌, length, Ok, Err, All, refl, sym, ap, ◌∙◌, arith, subst, append_assoc, append-nil}
+use Rattle.std.proofs.lemmas.List.{length_push}
+use Rattle.std.proofs.lemmas.List.Elements.{All-nil, All-push}
+use Rattle.std.proofs.lemmas.List.Quantifiers.{all_pairs_push}
+use Rattle.std.specs.List.{AllPairs}
+use Rattle.std.specs.Prelude.{nat_lt, if◌then◌else◌}
+use Rattle.script_text.specs.Grammar.{line_of}
+use Rattle.script_text.specs.Lawful.{AreNames, IsLawful, IsLawfulConfig, StepFits, StepsFit, line_numbers}
+use Rattle.script_text.specs.Meaning.{lines_of, read_on, script_from, script_of}
+use Rattle.script_text.specs.SoFar.{SoFar, configured, connects_with, moment_with, no_config, no_lines, said_with, setting_with, step_with}
+use Rattle.script_text.specs.declared.config.Config.{Config}
+use Rattle.script_text.specs.declared.config.Names.{Names}
+use Rattle.script_text.specs.declared.kinds.ScriptError.TheVariants.{Fault}
+use Rattle.script_text.specs.declared.kinds.ScriptKind.TheVariants.{TooLong}
+use Rattle.script_text.specs.declared.lines.Line.{Line}
+use Rattle.script_text.specs.declared.lines.Line.TheVariants as line
+use Rattle.script_text.specs.declared.lines.Setting.{Setting}
+use Rattle.script_text.specs.declared.lines.Setting.TheVariants as setting
+use Rattle.script_text.specs.declared.steps.Script.{Script}
+use Rattle.script_text.specs.declared.steps.Step.{Step}
+use Rattle.script_text.proofs.LineFacts.{LineFits, SettingFits, line_of-fits}
+use Rattle.script_text.proofs.Meanings.{from-cons, from-nil}
+
+-- ---- the configuration
+
+lawful-no_config : (serving : Bool) → IsLawfulConfig serving no_config
+lawful-no_config serving =
+    record {
+      few = omega arith;
+      named = All-nil AreNames;
+      distinct = λ i j d h within. absurd (omega arith);
+      libraries = omega arith;
+      connections = omega arith;
+      replaying = λ _. refl;
+      lane = (omega arith, omega arith);
+      leases = (omega arith, omega arith);
+      sends = (omega arith, omega arith);
+      asks = (omega arith, omega arith);
+      timeout = (omega arith, omega arith);
+      hold = (omega arith, omega arith);
+    }
+
+not-true : (b : Bool) → b ≡ true → not b ≡ true → ⊥
+not-true true h k = cc
+not-true false h k = cc
+
+lawful-configured : (serving : Bool) (config : Config) (what : Setting) → IsLawfulConfig serving config → SettingFits serving config.names what → IsLawfulConfig serving (configured what config)
+lawful-configured serving config (setting.Session names) h fits =
+    record {
+      few = omega (arith, fits.0, length_push config.names names);
+      named = All-push AreNames config.names names h.named fits.1;
+      distinct = all_pairs_push (λ (a b : Names). a ≢ b) config.names names h.distinct fits.2;
+      libraries = h.libraries;
+      connections = h.connections;
+      replaying = h.replaying;
+      lane = h.lane;
+      leases = h.leases;
+      sends = h.sends;
+      asks = h.asks;
+      timeout = h.timeout;
+      hold = h.hold;
+    }
+lawful-configured serving config (setting.Libraries n) h fits =
+    record {
+      few = h.few;
+      named = h.named;
+      distinct = h.distinct;
+      libraries = fits;
+      connections = h.connections;
+      replaying = h.replaying;
+      lane = h.lane;
+      leases = h.leases;
+      sends = h.sends;
+      asks = h.asks;
+      timeout = h.timeout;
+      hold = h.hold;
+    }
+lawful-configured serving config (setting.Connections n) h fits =
+    record {
+      few = h.few;
+      named = h.named;
+      distinct = h.distinct;
+      libraries = h.libraries;
+      connections = fits.1;
+      replaying = λ replays. absurd (not-true serving fits.0 replays);
+      lane = h.lane;
+      leases = h.leases;
+      sends = h.sends;
+      asks = h.asks;
+      timeout = h.timeout;
+      hold = h.hold;
+    }
+lawful-configured serving config (setting.Lane n) h fits =
+    record {
+      few = h.few;
+      named = h.named;
+      distinct = h.distinct;
+      libraries = h.libraries;
+      connections = h.connections;
+      replaying = h.replaying;
+      lane = fits;
+      leases = h.leases;
+      sends = h.sends;
+      asks = h.asks;
+      timeout = h.timeout;
+      hold = h.hold;
+    }
+lawful-configured serving config (setting.Leases n) h fits =
+    record {
+      few = h.few;
+      named = h.named;
+      distinct = h.distinct;
+      libraries = h.libraries;
+      connections = h.connections;
+      replaying = h.replaying;
+      lane = h.lane;
+      leases = fits;
+      sends = h.sends;
+      asks = h.asks;
+      timeout = h.timeout;
+      hold = h.hold;
+    }
+lawful-configured serving config (setting.Sends n) h fits =
+    record {
+      few = h.few;
+      named = h.named;
+      distinct = h.distinct;
+      libraries = h.libraries;
+      connections = h.connections;
+      replaying = h.replaying;
+      lane = h.lane;
+      leases = h.leases;
+      sends = fits;
+      asks = h.asks;
+      timeout = h.timeout;
+      hold = h.hold;
+    }
+lawful-configured serving config (setting.Asks n) h fits =
+    record {
+      few = h.few;
+      named = h.named;
+      distinct = h.distinct;
+      libraries = h.libraries;
+      connections = h.connections;
+      replaying = h.replaying;
+      lane = h.lane;
+      leases = h.leases;
+      sends = h.sends;
+      asks = fits;
+      timeout = h.timeout;
+      hold = h.hold;
+    }
+lawful-configured serving config (setting.Timeout n) h fits =
+    record {
+      few = h.few;
+      named = h.named;
+      distinct = h.distinct;
+      libraries = h.libraries;
+      connections = h.connections;
+      replaying = h.replaying;
+      lane = h.lane;
+      leases = h.leases;
+      sends = h.sends;
+      asks = h.asks;
+      timeout = fits;
+      hold = h.hold;
+    }
+lawful-configured serving config (setting.Hold n) h fits =
+    record {
+      few = h.few;
+      named = h.named;
+      distinct = h.distinct;
+      libraries = h.libraries;
+      connections = h.connections;
+      replaying = h.replaying;
+      lane = h.lane;
+      leases = h.leases;
+      sends = h.sends;
+      asks = h.asks;
+      timeout = h.timeout;
+      hold = fits;
+    }
+
+-- ---- the steps
+
+-- the number of connections and the present moment behind steps
+abbrev pub connects_behind : ℕ → List Step → ℕ
+connects_behind count [] = count
+connects_behind count (first ∷ rest) = connects_behind (connects_with first count) rest
+
+abbrev pub moment_behind : ℕ → List Step → ℕ
+moment_behind present [] = present
+moment_behind present (first ∷ rest) = moment_behind (moment_with first present) rest
+
+connects_behind-push : (count : ℕ) (steps : List Step) (what : Step) → connects_behind count (steps ++ what ∷ []) ≡ connects_with what (connects_behind count steps)
+connects_behind-push count [] what = refl
+connects_behind-push count (first ∷ rest) what = connects_behind-push (connects_with first count) rest what
+
+moment_behind-push : (present : ℕ) (steps : List Step) (what : Step) → moment_behind present (steps ++ what ∷ []) ≡ moment_with what (moment_behind present steps)
+moment_behind-push present [] what = refl
+moment_behind-push present (first ∷ rest) what = moment_behind-push (moment_with first present) rest what
+
+fit-push : (serving : Bool) (libraries connects present : ℕ) (steps : List Step) (what : Step) → StepsFit serving libraries connects present steps → StepFits serving libraries (connects_behind connects steps) (moment_behind present steps) what → StepsFit serving libraries connects present (steps ++ what ∷ [])
+fit-push serving libraries connects present [] what all fits = (fits, tt)
+fit-push serving libraries connects present (first ∷ rest) what all fits =
+    (all.0, fit-push serving libraries (connects_with first connects) (moment_with first present) rest what all.1 fits)
+
+fit-none : (serving : Bool) (libraries connects present : ℕ) (steps : List Step) → length steps ≡ 0 → StepsFit serving libraries connects present steps
+fit-none serving libraries connects present [] none = tt
+fit-none serving libraries connects present (first ∷ rest) none = absurd (omega arith)
+
+-- ---- the lines so far
+
+-- the script before line n is lawful, and what is kept beside it is that of its steps
+pub record Kept (serving : Bool) (n : ℕ) (said : SoFar) : Type 0 where
+  pub lawful : IsLawful serving said.script
+  pub connects : said.connects ≡ connects_behind 0 said.script.steps
+  pub moment : said.moment ≡ moment_behind 0 said.script.steps
+  pub below : All (λ m. m < n) (line_numbers said.script)
+
+kept_start : (serving : Bool) → Kept serving 1 no_lines
+kept_start serving =
+    record {
+      lawful = record {
+        config = lawful-no_config serving;
+        steps = tt;
+        session_lines = refl;
+        step_lines = refl;
+        in_order = λ i j d h within. absurd (omega arith);
+      };
+      connects = refl;
+      moment = refl;
+      below = All-nil (λ m. m < 1);
+    }
+
+later-below : (n : ℕ) (numbers : List ℕ) → All (λ m. m < n) numbers → All (λ m. m < suc n) numbers
+later-below n numbers below k d within = let before = below k d within in omega (arith, before)
+
+more-below : (n : ℕ) (numbers : List ℕ) → All (λ m. m < n) numbers → All (λ m. m < suc n) (numbers ++ n ∷ [])
+more-below n numbers below = All-push (λ m. m < suc n) numbers n (later-below n numbers below) (omega arith)
+
+more-in_order : (n : ℕ) (numbers : List ℕ) → All (λ m. m < n) numbers → AllPairs (λ (a b : ℕ). a < b) numbers → AllPairs (λ (a b : ℕ). a < b) (numbers ++ n ∷ [])
+more-in_order n numbers below in_order = all_pairs_push (λ (a b : ℕ). a < b) numbers n in_order below
+
+no_items : {X : Type 0} (xs : List X) → length xs ≡ 0 → xs ≡ []
+no_items [] none = refl
+no_items (x ∷ xs) none = absurd (omega arith)
+
+-- one more session line, where no step stands
+numbers-session : (sessions steps : List ℕ) (n : ℕ) → length steps ≡ 0 → (sessions ++ n ∷ []) ++ steps ≡ (sessions ++ steps) ++ n ∷ []
+numbers-session sessions steps n none =
+    ap (λ (xs : List ℕ). (sessions ++ n ∷ []) ++ xs) (no_items steps none) ∙ append-nil (sessions ++ n ∷ [])
+    ∙ ap (λ (xs : List ℕ). xs ++ n ∷ []) (sym (append-nil sessions))
+    ∙ ap (λ (xs : List ℕ). (sessions ++ xs) ++ n ∷ []) (sym (no_items steps none))
+
+kept_session : (serving : Bool) (n : ℕ) (said : SoFar) (names : Names) → Kept serving n said → length said.script.steps ≡ 0 → SettingFits serving said.script.config.names (setting.Session names) → Kept serving (suc n) (setting_with n (setting.Session names) said)
+kept_session serving n said names kept none fits =
+    let no_numbers : length said.script.step_lines ≡ 0 = omega (arith, kept.lawful.step_lines) in
+    let numbers = numbers-session said.script.session_lines said.script.step_lines n no_numbers in
+    record {
+      lawful = record {
+        config = lawful-configured serving said.script.config (setting.Session names) kept.lawful.config fits;
+        steps = fit-none serving _ 0 0 said.script.steps none;
+        session_lines = omega (arith, kept.lawful.session_lines, length_push said.script.session_lines n, length_push said.script.config.names names);
+        step_lines = kept.lawful.step_lines;
+        in_order = subst (AllPairs (λ (a b : ℕ). a < b)) (sym numbers) (more-in_order n _ kept.below kept.lawful.in_order);
+      };
+      connects = kept.connects;
+      moment = kept.moment;
+      below = subst (All (λ m. m < suc n)) (sym numbers) (more-below n _ kept.below);
+    }
+
+-- another configuration with the same sessions, where no step stands
+kept_config : (serving : Bool) (n : ℕ) (said : SoFar) (config : Config) → Kept serving n said → length said.script.steps ≡ 0 → IsLawfulConfig serving config → length said.script.config.names ≡ length config.names → Kept serving (suc n) (record said { script = record said.script { config = config } })
+kept_config serving n said config kept none lawful same =
+    record {
+      lawful = record {
+        config = lawful;
+        steps = fit-none serving _ 0 0 said.script.steps none;
+        session_lines = kept.lawful.session_lines ∙ same;
+        step_lines = kept.lawful.step_lines;
+        in_order = kept.lawful.in_order;
+      };
+      connects = kept.connects;
+      moment = kept.moment;
+      below = later-below n _ kept.below;
+    }
+
+kept_setting : (serving : Bool) (n : ℕ) (said : SoFar) (what : Setting) → Kept serving n said → length said.script.steps ≡ 0 → SettingFits serving said.script.config.names what → Kept serving (suc n) (setting_with n what said)
+kept_setting serving n said (setting.Session names) kept none fits = kept_session serving n said names kept none fits
+kept_setting serving n said (setting.Libraries x) kept none fits =
+    kept_config serving n said _ kept none (lawful-configured serving said.script.config (setting.Libraries x) kept.lawful.config fits) refl
+kept_setting serving n said (setting.Connections x) kept none fits =
+    kept_config serving n said _ kept none (lawful-configured serving said.script.config (setting.Connections x) kept.lawful.config fits) refl
+kept_setting serving n said (setting.Lane x) kept none fits =
+    kept_config serving n said _ kept none (lawful-configured serving said.script.config (setting.Lane x) kept.lawful.config fits) refl
+kept_setting serving n said (setting.Leases x) kept none fits =
+    kept_config serving n said _ kept none (lawful-configured serving said.script.config (setting.Leases x) kept.lawful.config fits) refl
+kept_setting serving n said (setting.Sends x) kept none fits =
+    kept_config serving n said _ kept none (lawful-configured serving said.script.config (setting.Sends x) kept.lawful.config fits) refl
+kept_setting serving n said (setting.Asks x) kept none fits =
+    kept_config serving n said _ kept none (lawful-configured serving said.script.config (setting.Asks x) kept.lawful.config fits) refl
+kept_setting serving n said (setting.Timeout x) kept none fits =
+    kept_config serving n said _ kept none (lawful-configured serving said.script.config (setting.Timeout x) kept.lawful.config fits) refl
+kept_setting serving n said (setting.Hold x) kept none fits =
+    kept_config serving n said _ kept none (lawful-configured serving said.script.config (setting.Hold x) kept.lawful.config fits) refl
+
+kept_step : (serving : Bool) (n : ℕ) (said : SoFar) (what : Step) → Kept serving n said → StepFits serving said.script.config.libraries said.connects said.moment what → Kept serving (suc n) (step_with n what said)
+kept_step serving n said what kept fits =
+    let script = said.script in
+    let numbers : script.session_lines ++ (script.step_lines ++ n ∷ []) ≡ (script.session_lines ++ script.step_lines) ++ n ∷ [] = sym (append_assoc script.session_lines script.step_lines (n ∷ [])) in
+    let behind = subst (λ m. StepFits serving script.config.libraries (connects_behind 0 script.steps) m what) kept.moment (subst (λ c. StepFits serving script.config.libraries c said.moment what) kept.connects fits) in
+    record {
+      lawful = record {
+        config = kept.lawful.config;
+        steps = fit-push serving script.config.libraries 0 0 script.steps what kept.lawful.steps behind;
+        session_lines = kept.lawful.session_lines;
+        step_lines = omega (arith, kept.lawful.step_lines, length_push script.step_lines n, length_push script.steps what);
+        in_order = subst (AllPairs (λ (a b : ℕ). a < b)) (sym numbers) (more-in_order n _ kept.below kept.lawful.in_order);
+      };
+      connects = ap (connects_with what) kept.connects ∙ sym (connects_behind-push 0 script.steps what);
+      moment = ap (moment_with what) kept.moment ∙ sym (moment_behind-push 0 script.steps what);
+      below = subst (All (λ m. m < suc n)) (sym numbers) (more-below n _ kept.below);
+    }
+
+kept_line : (serving : Bool) (n : ℕ) (said : SoFar) (what : Line) → Kept serving n said → LineFits serving said what → Kept serving (suc n) (said_with n what said)
+unfolding said_with
+kept_line serving n said line.Blank kept fits =
+    record { lawful = kept.lawful; connects = kept.connects; moment = kept.moment; below = later-below n _ kept.below }
+kept_line serving n said (line.Config what) kept fits = kept_setting serving n said what kept fits.0 fits.1
+kept_line serving n said (line.Step what) kept fits = kept_step serving n said what kept fits
+
+-- ---- whole scripts
+
+lawful-from : (serving : Bool) (n : ℕ) (said : SoFar) (texts : List (List ℕ)) (script : Script) → Kept serving n said → script_from serving n said texts ≡ Ok script → IsLawful serving script
+lawful-from serving n said [] script kept e =
+    let same : said.script ≡ script = cc (from-nil serving n said) in subst (IsLawful serving) same kept.lawful
+lawful-from serving n said (text ∷ texts) script kept e =
+    elim (line_of serving said text) as (λ v. line_of serving said text ≡ v → read_on n (λ line. script_from serving (suc n) (said_with n line said) texts) v ≡ Ok script → IsLawful serving script) [
+      | Ok what ↦ λ read s. lawful-from serving (suc n) (said_with n what said) texts script (kept_line serving n said what kept (line_of-fits serving said text what read)) s
+      | Err kind ↦ λ _ s. cc
+    ] refl (sym (from-cons serving n said text texts) ∙ e)
+
+pub lawful-script : (serving : Bool) (text : List ℕ) (script : Script) → script_of serving text ≡ Ok script → IsLawful serving script
+unfolding script_of
+lawful-script serving text script e =
+    elim (nat_lt 16_777_216 (length text)) as (λ v. (if v then Err (Fault 0 TooLong) else script_from serving 1 no_lines (lines_of text)) ≡ Ok script → IsLawful serving script) [
+      | true ↦ λ s. cc
+      | false ↦ λ s. lawful-from serving 1 no_lines (lines_of text) script (kept_start serving) s
+    ] e

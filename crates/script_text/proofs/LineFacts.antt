@@ -1,0 +1,261 @@
+-- What is known of a line that is read.
+use Rattle.std.proofs.Common.{◌≡◌, ◌≢◌, ℕ, ◌<◌, ◌≤◌, Bool, true, false, not, cond, List, length, Option, Some, None, Ok, All, IsTrue, nat_lt, ap, ◌∙◌, arith, subst}
+use Rattle.std.proofs.lemmas.Bool.Decides.{nat_tests}
+use Rattle.std.specs.List.{list_all, list_any}
+use Rattle.script_text.specs.Fields.{body_at, ends, keyword_at, later, moment_at, name_at, number_at, number_below, number_within, text_at}
+use Rattle.script_text.specs.Grammar.{act_line, act_named, act_worded, bytes_line, config_line, connect_line, connection_and_number_line, connection_line, event_line, frame_line, hand_line, is_here, is_skipped, lib_line, limit_line, limit_named, limit_worded, line_of, moment_line, names_line, new_names, no_steps, opened_line, option_line, read_line, release_line, request_line, same_names, send_line, session_line}
+use Rattle.script_text.specs.Kinds.{◌>>=◌, both, demand}
+use Rattle.script_text.specs.Lawful.{ActFits, AreNames, StepFits}
+use Rattle.script_text.specs.Printed.{is_printable}
+use Rattle.script_text.specs.SoFar.{SoFar}
+use Rattle.script_text.specs.Words.{behind_word, lib_word_of, limit_word_of, opening_of, word_in}
+use Rattle.script_text.specs.declared.config.Names.{Names}
+use Rattle.script_text.specs.declared.kinds.ScriptKind.TheVariants.{BadByte, Backward, Misplaced, OutOfRange}
+use Rattle.script_text.specs.declared.lines.ConfigWord.{ConfigWord}
+use Rattle.script_text.specs.declared.lines.ConfigWord.TheVariants as config_word
+use Rattle.script_text.specs.declared.lines.EventWord.{EventWord}
+use Rattle.script_text.specs.declared.lines.EventWord.TheVariants as event_word
+use Rattle.script_text.specs.declared.lines.LibWord.{LibWord}
+use Rattle.script_text.specs.declared.lines.LibWord.TheVariants as lib_word
+use Rattle.script_text.specs.declared.lines.LimitWord.{LimitWord}
+use Rattle.script_text.specs.declared.lines.LimitWord.TheVariants as limit_word
+use Rattle.script_text.specs.declared.lines.Line.{Line}
+use Rattle.script_text.specs.declared.lines.Line.TheVariants as line
+use Rattle.script_text.specs.declared.lines.Opening.{Opening}
+use Rattle.script_text.specs.declared.lines.Opening.TheVariants as opening
+use Rattle.script_text.specs.declared.lines.Setting.{Setting}
+use Rattle.script_text.specs.declared.lines.Setting.TheVariants as setting
+use Rattle.script_text.specs.declared.steps.LibStep.{LibStep}
+use Rattle.script_text.specs.declared.steps.LibStep.TheVariants as act
+use Rattle.script_text.specs.declared.steps.Step.{Step}
+use Rattle.script_text.specs.declared.steps.Step.TheVariants as step
+use Rattle.script_text.proofs.PartFacts.{as_part-ok, bind-ok, body_at-ok, both-ok, demand-ok, ends-ok, if-ok, moment_at-ok, name_at-ok, none_same, number_below-ok, number_line-ok, number_within-ok}
+
+abbrev pub Args : Type 0
+Args = Option (List ℕ)
+
+-- ---- the configuration
+
+-- a setting in its range
+abbrev pub SettingFits : Bool → List Names → Setting → Type 0
+SettingFits serving before (setting.Session names) =
+    (length before < 64) × AreNames names × All (λ other. other ≢ names) before
+SettingFits serving before (setting.Libraries n) = n ≤ 16
+SettingFits serving before (setting.Connections n) = IsTrue serving × (n ≤ 1_024)
+SettingFits serving before (setting.Lane n) = (1 ≤ n) × (n ≤ 16)
+SettingFits serving before (setting.Leases n) = (1 ≤ n) × (n ≤ 16_777_215)
+SettingFits serving before (setting.Sends n) = (1 ≤ n) × (n ≤ 4_294_967_295)
+SettingFits serving before (setting.Asks n) = (1 ≤ n) × (n ≤ 4_294_967_295)
+SettingFits serving before (setting.Timeout n) = (1 ≤ n) × (n ≤ 3_600_000)
+SettingFits serving before (setting.Hold n) = (1 ≤ n) × (n ≤ 3_600_000)
+
+names_line-fits : (args : Args) (names : Names) → names_line args ≡ Ok names → AreNames names
+unfolding names_line
+names_line-fits args names e =
+    let made = as_part-ok _ (ends (later (later args)) (both (name_at args) (name_at (later args)))) names e in
+    let parts = both-ok _ _ made.0 (ends-ok (later (later args)) _ made.0 made.1) in
+    subst AreNames made.2 (name_at-ok args made.0.0 parts.0, name_at-ok (later args) made.0.1 parts.1)
+
+session_line-fits : (serving : Bool) (before : List Names) (args : Args) (what : Setting) → session_line before args ≡ Ok what → SettingFits serving before what
+unfolding session_line
+session_line-fits serving before args what e =
+    let held = demand-ok (nat_lt (length before) 64) OutOfRange _ what e in
+    let made = as_part-ok setting.Session (names_line args >>= new_names before) what held.1 in
+    let found = bind-ok (names_line args) (new_names before) made.0 made.1 in
+    let new = if-ok (list_any (λ other. same_names other found.0) before) OutOfRange found.0 made.0 found.2 in
+    let few : length before < 64 = grind (arith, nat_tests, held.0) in
+    let named = names_line-fits args found.0 found.1 in
+    let differ : All (λ other. other ≢ found.0) before = none_same before found.0 new.0 in
+    subst (SettingFits serving before) (ap setting.Session new.1 ∙ made.2) (few, named, differ)
+
+limit_line-fits : (serving : Bool) (before : List Names) (word : LimitWord) (args : Args) (what : Setting) → limit_line word args ≡ Ok what → SettingFits serving before what
+unfolding limit_line
+limit_line-fits serving before limit_word.Lane args what e =
+    let made = as_part-ok setting.Lane _ what e in
+    subst (SettingFits serving before) made.2 (number_line-ok 1 16 args made.0 made.1)
+limit_line-fits serving before limit_word.Leases args what e =
+    let made = as_part-ok setting.Leases _ what e in
+    subst (SettingFits serving before) made.2 (number_line-ok 1 16_777_215 args made.0 made.1)
+limit_line-fits serving before limit_word.Sends args what e =
+    let made = as_part-ok setting.Sends _ what e in
+    subst (SettingFits serving before) made.2 (number_line-ok 1 4_294_967_295 args made.0 made.1)
+limit_line-fits serving before limit_word.Asks args what e =
+    let made = as_part-ok setting.Asks _ what e in
+    subst (SettingFits serving before) made.2 (number_line-ok 1 4_294_967_295 args made.0 made.1)
+limit_line-fits serving before limit_word.Timeout args what e =
+    let made = as_part-ok setting.Timeout _ what e in
+    subst (SettingFits serving before) made.2 (number_line-ok 1 3_600_000 args made.0 made.1)
+limit_line-fits serving before limit_word.Hold args what e =
+    let made = as_part-ok setting.Hold _ what e in
+    subst (SettingFits serving before) made.2 (number_line-ok 1 3_600_000 args made.0 made.1)
+
+limit_worded-fits : (serving : Bool) (before : List Names) (word : Option (List ℕ)) (args : Args) (what : Setting) → limit_worded word args ≡ Ok what → SettingFits serving before what
+limit_worded-fits serving before None args what e = cc
+limit_worded-fits serving before (Some word) args what e =
+    elim (limit_word_of word) as (λ v. limit_named v args ≡ Ok what → SettingFits serving before what) [
+      | None ↦ λ n. cc
+      | Some found ↦ λ s. limit_line-fits serving before found args what s
+    ] e
+
+option_line-fits : (serving : Bool) (before : List Names) (args : Args) (what : Setting) → option_line args ≡ Ok what → SettingFits serving before what
+unfolding option_line
+option_line-fits serving before args what e = limit_worded-fits serving before (keyword_at args) (later args) what e
+
+config_line-fits : (serving : Bool) (before : List Names) (word : ConfigWord) (args : Args) (what : Setting) → config_line serving before word args ≡ Ok what → SettingFits serving before what
+unfolding config_line
+config_line-fits serving before config_word.Session args what e = session_line-fits serving before args what e
+config_line-fits serving before config_word.Libraries args what e =
+    let made = as_part-ok setting.Libraries _ what e in
+    subst (SettingFits serving before) made.2 (number_line-ok 0 16 args made.0 made.1).1
+config_line-fits serving before config_word.Connections args what e =
+    let held = demand-ok serving Misplaced _ what e in
+    let made = as_part-ok setting.Connections _ what held.1 in
+    subst (SettingFits serving before) made.2 (held.0, (number_line-ok 0 1_024 args made.0 made.1).1)
+config_line-fits serving before config_word.Limit args what e = option_line-fits serving before args what e
+
+-- ---- the lines of `replay`
+
+connection_line-fits : (connects : ℕ) (args : Args) (c : ℕ) → connection_line connects args ≡ Ok c → c < connects
+unfolding connection_line
+connection_line-fits connects args c e = number_below-ok connects args c (ends-ok (later args) _ c e)
+
+connection_and_number_line-fits : (connects : ℕ) (args : Args) (pair : ℕ × ℕ) → connection_and_number_line connects args ≡ Ok pair → pair.0 < connects
+unfolding connection_and_number_line
+connection_and_number_line-fits connects args pair e =
+    number_below-ok connects args pair.0 (both-ok _ (number_at (later args)) pair (ends-ok (later (later args)) _ pair e)).0
+
+moment_line-fits : (present : ℕ) (args : Args) (now : ℕ) → moment_line present args ≡ Ok now → (present ≤ now) × (now ≤ 253_402_300_799_999)
+unfolding moment_line
+moment_line-fits present args now e =
+    let found = bind-ok (moment_at args) _ now (ends-ok (later args) _ now e) in
+    let held = if-ok (nat_lt found.0 present) Backward found.0 now found.2 in
+    let late : present ≤ found.0 = grind (arith, nat_tests, held.0) in
+    let early = moment_at-ok args found.0 found.1 in
+    (omega (arith, held.1), omega (arith, held.1))
+
+connect_line-fits : (connects : ℕ) (args : Args) (what : Step) → connect_line connects args ≡ Ok what → (connects < 1_024) × (step.Connect ≡ what)
+unfolding connect_line
+connect_line-fits connects args what e =
+    let held = demand-ok (nat_lt connects 1_024) OutOfRange (Ok step.Connect) what (ends-ok args _ what e) in
+    (grind (arith, nat_tests, held.0), cc (held.1))
+
+bytes_line-fits : (connects : ℕ) (args : Args) (what : Step) → bytes_line connects args ≡ Ok what → (c : ℕ) × (bytes : List ℕ) × (c < connects) × (step.Bytes c bytes ≡ what)
+unfolding bytes_line
+bytes_line-fits connects args what e =
+    let made = as_part-ok _ (both (number_below connects args) (text_at (later args))) what e in
+    let parts = both-ok _ _ made.0 made.1 in
+    (made.0.0, made.0.1, number_below-ok connects args made.0.0 parts.0, made.2)
+
+frame_line-fits : (serving : Bool) (libraries connects present : ℕ) (args : Args) (what : Step) → IsTrue (not serving) → frame_line connects args ≡ Ok what → StepFits serving libraries connects present what
+unfolding frame_line
+frame_line-fits serving libraries connects present args what here e =
+    let made = as_part-ok _ (both (number_below connects args) (body_at (later args))) what e in
+    let parts = both-ok _ _ made.0 made.1 in
+    let framed = body_at-ok (later args) made.0.1 parts.1 in
+    subst (StepFits serving libraries connects present) made.2 (here, number_below-ok connects args made.0.0 parts.0, framed.0, framed.1)
+
+event_line-fits : (serving : Bool) (libraries connects present : ℕ) (word : EventWord) (args : Args) (what : Step) → IsTrue (not serving) → event_line connects present word args ≡ Ok what → StepFits serving libraries connects present what
+unfolding event_line
+event_line-fits serving libraries connects present event_word.At args what here e =
+    let made = as_part-ok step.At (moment_line present args) what e in
+    let bounds = moment_line-fits present args made.0 made.1 in
+    subst (StepFits serving libraries connects present) made.2 (here, bounds.0, bounds.1)
+event_line-fits serving libraries connects present event_word.Connect args what here e =
+    let made = connect_line-fits connects args what e in
+    subst (StepFits serving libraries connects present) made.1 (here, made.0)
+event_line-fits serving libraries connects present event_word.Bytes args what here e =
+    let made = bytes_line-fits connects args what e in
+    subst (StepFits serving libraries connects present) made.3 (here, made.2)
+event_line-fits serving libraries connects present event_word.Frame args what here e =
+    frame_line-fits serving libraries connects present args what here e
+event_line-fits serving libraries connects present event_word.Finish args what here e =
+    let made = as_part-ok step.Finish (connection_line connects args) what e in
+    subst (StepFits serving libraries connects present) made.2 (here, connection_line-fits connects args made.0 made.1)
+event_line-fits serving libraries connects present event_word.FailRead args what here e =
+    let made = as_part-ok step.FailRead (connection_line connects args) what e in
+    subst (StepFits serving libraries connects present) made.2 (here, connection_line-fits connects args made.0 made.1)
+event_line-fits serving libraries connects present event_word.FailWrite args what here e =
+    let made = as_part-ok _ (connection_and_number_line connects args) what e in
+    subst (StepFits serving libraries connects present) made.2 (here, connection_and_number_line-fits connects args made.0 made.1)
+event_line-fits serving libraries connects present event_word.Block args what here e =
+    let made = as_part-ok _ (connection_and_number_line connects args) what e in
+    subst (StepFits serving libraries connects present) made.2 (here, connection_and_number_line-fits connects args made.0 made.1)
+event_line-fits serving libraries connects present event_word.Unblock args what here e =
+    let made = as_part-ok step.Unblock (connection_line connects args) what e in
+    subst (StepFits serving libraries connects present) made.2 (here, connection_line-fits connects args made.0 made.1)
+event_line-fits serving libraries connects present event_word.Turn args what here e =
+    let made : step.Turn ≡ what = cc (ends-ok args (Ok step.Turn) what e) in
+    subst (StepFits serving libraries connects present) made here
+
+-- ---- the lines of libraries
+
+act_line-fits : (serving : Bool) (word : LibWord) (args : Args) (what : LibStep) → is_here serving word ≡ true → act_line word args ≡ Ok what → ActFits serving what
+unfolding act_line request_line send_line release_line hand_line read_line
+act_line-fits serving lib_word.Request args what here e =
+    let made = as_part-ok _ (ends (later (later args)) _) what e in subst (ActFits serving) made.2 tt
+act_line-fits serving lib_word.Poll args what here e =
+    let made : act.Poll ≡ what = cc (ends-ok args (Ok act.Poll) what e) in subst (ActFits serving) made tt
+act_line-fits serving lib_word.Send args what here e =
+    let made = as_part-ok _ (both _ (text_at (later args))) what e in subst (ActFits serving) made.2 tt
+act_line-fits serving lib_word.Release args what here e =
+    let made = as_part-ok act.Release (ends (later args) _) what e in subst (ActFits serving) made.2 tt
+act_line-fits serving lib_word.Beat args what here e =
+    let made : act.Beat ≡ what = cc (ends-ok args (Ok act.Beat) what e) in subst (ActFits serving) made tt
+act_line-fits serving lib_word.Hand args what here e =
+    let made = as_part-ok _ (ends (later (later args)) _) what e in subst (ActFits serving) made.2 tt
+act_line-fits serving lib_word.Answer args what here e =
+    let made : act.Answer ≡ what = cc (ends-ok args (Ok act.Answer) what e) in subst (ActFits serving) made here
+act_line-fits serving lib_word.Read args what here e =
+    let made = as_part-ok act.Read (ends (later args) _) what e in subst (ActFits serving) made.2 here
+
+act_worded-fits : (serving : Bool) (libraries connects present : ℕ) (args word : Args) (what : Step) → act_worded serving libraries args word ≡ Ok what → StepFits serving libraries connects present what
+act_worded-fits serving libraries connects present args None what e = cc
+act_worded-fits serving libraries connects present args (Some word) what e =
+    elim (lib_word_of word) as (λ v. act_named serving libraries args v ≡ Ok what → StepFits serving libraries connects present what) [
+      | None ↦ λ n. cc
+      | Some found ↦ λ s.
+          let held = demand-ok (is_here serving found) Misplaced _ what s in
+          let made = as_part-ok _ (both (number_within 1 libraries args) (act_line found (later (later args)))) what held.1 in
+          let parts = both-ok _ _ made.0 made.1 in
+          let bounds = number_within-ok 1 libraries args made.0.0 parts.0 in
+          subst (StepFits serving libraries connects present) made.2 (bounds.0, bounds.1, act_line-fits serving found (later (later args)) made.0.1 held.0 parts.1)
+    ] e
+
+lib_line-fits : (serving : Bool) (libraries connects present : ℕ) (args : Args) (what : Step) → lib_line serving libraries args ≡ Ok what → StepFits serving libraries connects present what
+unfolding lib_line
+lib_line-fits serving libraries connects present args what e =
+    act_worded-fits serving libraries connects present args (keyword_at (later args)) what e
+
+-- ---- all lines
+
+-- a line that fits behind those before it
+abbrev pub LineFits : Bool → SoFar → Line → Type 0
+LineFits serving said line.Blank = Unit {0}
+LineFits serving said (line.Config what) =
+    (length said.script.steps ≡ 0) × SettingFits serving said.script.config.names what
+LineFits serving said (line.Step what) =
+    StepFits serving said.script.config.libraries said.connects said.moment what
+
+opened_line-fits : (serving : Bool) (said : SoFar) (found : Option Opening) (args : Args) (what : Line) → opened_line serving said found args ≡ Ok what → LineFits serving said what
+unfolding opened_line
+opened_line-fits serving said None args what e = cc
+opened_line-fits serving said (Some (opening.Configures word)) args what e =
+    let made = as_part-ok line.Config (demand (no_steps said) Misplaced (config_line serving said.script.config.names word args)) what e in
+    let held = demand-ok (no_steps said) Misplaced _ made.0 made.1 in
+    let none : length said.script.steps ≡ 0 = grind (arith, nat_tests, held.0) in
+    subst (LineFits serving said) made.2 (none, config_line-fits serving said.script.config.names word args made.0 held.1)
+opened_line-fits serving said (Some (opening.Replays word)) args what e =
+    let made = as_part-ok line.Step (demand (not serving) Misplaced (event_line said.connects said.moment word args)) what e in
+    let held = demand-ok (not serving) Misplaced _ made.0 made.1 in
+    subst (LineFits serving said) made.2 (event_line-fits serving said.script.config.libraries said.connects said.moment word args made.0 held.0 held.1)
+opened_line-fits serving said (Some opening.Library) args what e =
+    let made = as_part-ok line.Step (lib_line serving said.script.config.libraries args) what e in
+    subst (LineFits serving said) made.2 (lib_line-fits serving said.script.config.libraries said.connects said.moment args made.0 made.1)
+
+pub line_of-fits : (serving : Bool) (said : SoFar) (text : List ℕ) (what : Line) → line_of serving said text ≡ Ok what → LineFits serving said what
+unfolding line_of
+line_of-fits serving said text what e =
+    elim (is_skipped text) as (λ v. cond v (Ok line.Blank) (demand (list_all is_printable text) BadByte (opened_line serving said (opening_of (word_in text)) (behind_word text))) ≡ Ok what → LineFits serving said what) [
+      | true ↦ λ s. let made : line.Blank ≡ what = cc in subst (LineFits serving said) made tt
+      | false ↦ λ s. opened_line-fits serving said (opening_of (word_in text)) (behind_word text) what (demand-ok (list_all is_printable text) BadByte _ what s).1
+    ] e

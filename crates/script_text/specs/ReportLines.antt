@@ -1,0 +1,35 @@
+-- Lines of the report: words with one space before each.
+use Rattle.std.specs.Prelude.{ℕ, ◌+◌, List, [], ◌∷◌, ◌++◌, decimal, min}
+use Rattle.fix_fields.specs.Stamp.{stamp_of}
+use Rattle.std.specs.List.{flat_map}
+use Rattle.script_text.specs.declared.report_lines.Part.{Part}
+use Rattle.script_text.specs.declared.report_lines.Part.TheVariants.{Word, Number, Stamp, Printed}
+use Rattle.script_text.specs.Printed.{printed}
+
+-- words with a space before each
+abbrev pub spaced : List (List ℕ) → List ℕ
+spaced words = flat_map (λ word. 32 ∷ word) words
+
+-- a line that begins with a space, or the rest of one
+abbrev pub indented : List (List ℕ) → List ℕ
+indented words = spaced words ++ 10 ∷ []
+
+-- a line that begins with a word
+abbrev pub line : List ℕ → List (List ℕ) → List ℕ
+line head words = head ++ indented words
+
+-- texts of values in order, each with its place
+abbrev pub numbered : {X : Type 0} → (ℕ → X → List ℕ) → ℕ → List X → List ℕ
+numbered text n [] = []
+numbered text n (x ∷ xs) = text n x ++ numbered text (n + 1) xs
+
+-- a moment as it is printed: a later one than the last is taken as that one
+unfoldable pub stamp_word : ℕ → List ℕ
+stamp_word ms = stamp_of (min ms 253402300799999)
+
+-- the word of a part
+abbrev pub part_text : Part → List ℕ
+part_text (Word text) = text.now
+part_text (Number n) = decimal n
+part_text (Stamp ms) = stamp_word ms
+part_text (Printed bytes) = printed bytes.now

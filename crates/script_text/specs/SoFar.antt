@@ -1,0 +1,89 @@
+-- What the lines read so far say.
+use Rattle.std.specs.Prelude.{ℕ, ◌+◌, List, [], ◌∷◌, ◌++◌}
+use Rattle.script_text.specs.declared.config.Config.{Config}
+use Rattle.script_text.specs.declared.lines.Line.{Line}
+use Rattle.script_text.specs.declared.lines.Line.TheVariants as line
+use Rattle.script_text.specs.declared.lines.Setting.{Setting}
+use Rattle.script_text.specs.declared.lines.Setting.TheVariants as setting
+use Rattle.script_text.specs.declared.steps.Script.{Script}
+use Rattle.script_text.specs.declared.steps.Step.{Step}
+use Rattle.script_text.specs.declared.steps.Step.TheVariants as step
+
+-- the script so far, the number of its connections, and the present moment
+pub record SoFar : Type 0 where
+  pub script : Script
+  pub connects : ℕ
+  pub moment : ℕ
+
+-- the configuration without a line
+abbrev pub no_config : Config
+no_config = record {
+  names = [];
+  libraries = 0;
+  connections = 0;
+  lane = 16;
+  leases = 16_777_215;
+  sends = 4_294_967_295;
+  asks = 4_294_967_295;
+  timeout = 5_000;
+  hold = 1_000;
+}
+
+-- before the first line
+abbrev pub no_lines : SoFar
+no_lines = record {
+  script = record { config = no_config; steps = []; session_lines = []; step_lines = [] };
+  connects = 0;
+  moment = 0;
+}
+
+-- the configuration with one more setting
+abbrev pub configured : Setting → Config → Config
+configured (setting.Session names) config = record config { names = config.names ++ names ∷ [] }
+configured (setting.Libraries n) config = record config { libraries = n }
+configured (setting.Connections n) config = record config { connections = n }
+configured (setting.Lane n) config = record config { lane = n }
+configured (setting.Leases n) config = record config { leases = n }
+configured (setting.Sends n) config = record config { sends = n }
+configured (setting.Asks n) config = record config { asks = n }
+configured (setting.Timeout n) config = record config { timeout = n }
+configured (setting.Hold n) config = record config { hold = n }
+
+-- the lines of the sessions, where a setting stands on line n
+abbrev pub session_lines_with : ℕ → Setting → List ℕ → List ℕ
+session_lines_with n (setting.Session names) numbers = numbers ++ n ∷ []
+session_lines_with n _ numbers = numbers
+
+-- the number of connections with one more step
+abbrev pub connects_with : Step → ℕ → ℕ
+connects_with step.Connect count = count + 1
+connects_with _ count = count
+
+-- the present moment behind a step
+abbrev pub moment_with : Step → ℕ → ℕ
+moment_with (step.At now) before = now
+moment_with _ before = before
+
+-- what is said with one more setting, which stands on line n
+abbrev pub setting_with : ℕ → Setting → SoFar → SoFar
+setting_with n what said =
+    record said {
+      script = record said.script {
+        config = configured what said.script.config;
+        session_lines = session_lines_with n what said.script.session_lines;
+      };
+    }
+
+-- what is said with one more step, which stands on line n
+abbrev pub step_with : ℕ → Step → SoFar → SoFar
+step_with n what said = record {
+  script = record said.script { steps = said.script.steps ++ what ∷ []; step_lines = said.script.step_lines ++ n ∷ [] };
+  connects = connects_with what said.connects;
+  moment = moment_with what said.moment;
+}
+
+-- what is said with one more line, which has the number n
+unfoldable pub said_with : ℕ → Line → SoFar → SoFar
+said_with n line.Blank said = said
+said_with n (line.Config what) said = setting_with n what said
+said_with n (line.Step what) said = step_with n what said

@@ -1,0 +1,200 @@
+//! What the lines read so far say.
+
+ghost use Rattle.std.specs.Prelude.{◌≡◌, ◌<◌, ◌≤◌, OnOk};
+ghost use Rattle.script_text.specs.Grammar.{no_steps};
+ghost use Rattle.script_text.specs.SoFar.{no_lines, said_with, setting_with, step_with};
+
+use crate::config::{Config, Names};
+use crate::lines::{Line, Setting};
+use crate::steps::{Script, Step};
+use gate_io::{NoMemory, Rows};
+use std::alloc::Global;
+use std::marker::Model;
+
+/// The script so far, and what the next line is put to.
+#[derive(Drop)]
+pub(crate) struct Draft {
+    names: Vec<Names>,
+    session_lines: Vec<u32>,
+    limits: Limits,
+    steps: Vec<Step>,
+    step_lines: Vec<u32>,
+    connects: u32,
+    moment: u64,
+}
+
+/// The numbers of the configuration.
+#[derive(Clone, Copy)]
+struct Limits {
+    libraries: u8,
+    connections: u32,
+    lane: u8,
+    leases: u32,
+    sends: u32,
+    asks: u32,
+    timeout: u64,
+    hold: u64,
+}
+
+/// The numbers of the configuration without a line.
+const NO_LINE: Limits = Limits {
+    libraries: 0,
+    connections: 0,
+    lane: 16,
+    leases: 16_777_215,
+    sends: 4_294_967_295,
+    asks: 4_294_967_295,
+    timeout: 5_000,
+    hold: 1_000,
+};
+
+impl Model for Draft {
+    ghost use Rattle.script_text.specs.SoFar.{SoFar};
+
+    ghost Value = { SoFar };
+
+    ghost view = { λ d. record {
+      script = record {
+        config = record {
+          names = d.names.items;
+          libraries = d.limits.libraries;
+          connections = d.limits.connections;
+          lane = d.limits.lane;
+          leases = d.limits.leases;
+          sends = d.limits.sends;
+          asks = d.limits.asks;
+          timeout = d.limits.timeout;
+          hold = d.limits.hold;
+        };
+        steps = d.steps.items;
+        session_lines = d.session_lines.items;
+        step_lines = d.step_lines.items;
+      };
+      connects = d.connects;
+      moment = d.moment;
+    } };
+}
+
+impl Draft {
+    /// Before the first line.
+    pub(crate) fn new(alloc: Global) -> Draft
+        ensures { result ≡ no_lines }
+    {
+        Draft {
+            names: Vec::new(alloc),
+            session_lines: Vec::new(alloc),
+            limits: NO_LINE,
+            steps: Vec::new(alloc),
+            step_lines: Vec::new(alloc),
+            connects: 0,
+            moment: 0,
+        }
+    }
+
+    pub(crate) fn names(&self) -> &[Names]
+        ensures { result.now ≡ (self.now).script.config.names }
+    {
+        self.names.as_slice()
+    }
+
+    pub(crate) fn libraries(&self) -> u8
+        ensures { result ≡ (self.now).script.config.libraries }
+    {
+        self.limits.libraries
+    }
+
+    /// Whether no line but those of the configuration was read.
+    pub(crate) fn has_no_steps(&self) -> bool
+        ensures { result ≡ no_steps self.now }
+    {
+        self.steps.is_empty()
+    }
+
+    /// The number of connections.
+    pub(crate) fn connects(&self) -> u32
+        ensures { result ≡ (self.now).connects }
+    {
+        self.connects
+    }
+
+    /// The present moment.
+    pub(crate) fn moment(&self) -> u64
+        ensures { result ≡ (self.now).moment }
+    {
+        self.moment
+    }
+
+    /// Adds what the line with this number says.
+    #[tactic(auto, unfolding(crate::specs::SoFar::said_with))]
+    pub(crate) fn put(&mut self, number: u32, line: Line) -> Result<(), NoMemory>
+        requires { (self.old).connects < number }
+        ensures said { OnOk result (self.new ≡ said_with number line self.old) }
+        ensures connects { (self.new).connects ≤ number }
+    {
+        match line {
+            Line::Blank => Ok(()),
+            Line::Config(setting) => self.set(number, setting),
+            Line::Step(step) => self.push(number, step),
+        }
+    }
+
+    /// Adds what a line of the configuration sets.
+    fn set(&mut self, number: u32, setting: Setting) -> Result<(), NoMemory>
+        ensures said { OnOk result (self.new ≡ setting_with number setting self.old) }
+        ensures connects { (self.new).connects ≡ (self.old).connects }
+    {
+        match setting {
+            Setting::Session(names) => {
+                self.names.push(names)?;
+                self.session_lines.push(number)?;
+            }
+            Setting::Libraries(n) => self.limits.libraries = n,
+            Setting::Connections(n) => self.limits.connections = n,
+            Setting::Lane(n) => self.limits.lane = n,
+            Setting::Leases(n) => self.limits.leases = n,
+            Setting::Sends(n) => self.limits.sends = n,
+            Setting::Asks(n) => self.limits.asks = n,
+            Setting::Timeout(ms) => self.limits.timeout = ms,
+            Setting::Hold(ms) => self.limits.hold = ms,
+        }
+        Ok(())
+    }
+
+    /// Adds a step.
+    fn push(&mut self, number: u32, step: Step) -> Result<(), NoMemory>
+        requires { (self.old).connects < number }
+        ensures said { OnOk result (self.new ≡ step_with number step self.old) }
+        ensures connects { (self.new).connects ≤ number }
+    {
+        match &step {
+            Step::At { moment } => self.moment = *moment,
+            Step::Connect => self.connects += 1,
+            _ => {}
+        }
+        self.steps.push(step)?;
+        self.step_lines.push(number)?;
+        Ok(())
+    }
+
+    /// The script of all lines.
+    pub(crate) fn finish(self) -> Script
+        ensures { result ≡ self.script }
+    {
+        Script {
+            config: Config {
+                names: Rows::of(self.names),
+                libraries: self.limits.libraries,
+                connections: self.limits.connections,
+                lane: self.limits.lane,
+                leases: self.limits.leases,
+                sends: self.limits.sends,
+                asks: self.limits.asks,
+                timeout: self.limits.timeout,
+                hold: self.limits.hold,
+            },
+            steps: Rows::of(self.steps),
+            session_lines: Rows::of(self.session_lines),
+            step_lines: Rows::of(self.step_lines),
+        }
+    }
+}
