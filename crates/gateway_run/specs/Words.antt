@@ -15,3 +15,8 @@ pub record GivesReplay (words : List (List ℕ)) (path : List ℕ) : Type 0 wher
 
 abbrev pub Gives : List (List ℕ) → Chosen → Type 0
 Gives words (Replay path) = GivesReplay words path
+
+-- the words give a command
+pub record HasCommand (words : List (List ℕ)) : Type 0 where
+  pub chosen : Chosen
+  pub gives : Gives words chosen

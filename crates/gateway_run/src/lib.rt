@@ -4,31 +4,21 @@
 //! did. It is a function of the words, of the bytes of the script and of what the sink takes.
 #![tactic(auto)]
 
-mod causes;
+mod carrying;
 mod connections;
 mod desk;
 mod engine;
-mod journal;
-mod lines;
-mod printed;
-mod recording;
-mod records;
+mod form;
+pub mod laws;
 mod replaying;
-mod report;
+mod run;
 mod session;
 mod statuses;
-mod turns;
+#[cfg(test)]
+mod tests;
 mod wire_text;
 mod words;
 
-pub use causes::Cause;
-pub use journal::{Entry, Holding, Why};
-pub use records::{
-    ConnRecord, EngineRecord, LibReport, Names, OutEntry, RunRecord, SessionRecord, Stray,
-};
-pub use replaying::{LONGEST_SCRIPT, replay};
+pub use replaying::replay;
 pub use statuses::Status;
 pub use words::{Chosen, WordsError, command_of};
-
-#[cfg(test)]
-mod tests;

@@ -1,130 +1,86 @@
-//! A recorded script, carried out on one thread.
+//! The top call that carries out a recorded script on one thread.
 
-ghost use Rattle.std.specs.Prelude.{◌≡◌, ◌<◌, length};
-ghost use Rattle.gate_io.specs.MemWire.{door_of, link_at};
-ghost use Rattle.gateway_run.specs.Serving.{IsServed};
+ghost use Rattle.std.specs.Prelude.{◌≡◌, ◌⊎◌, ℕ, false, All, Err, length, IfOk, IfErr, IfSome, OnOk, map, string_bytes};
+ghost use Rattle.gate_io.specs.Counts.{HasRisen};
+ghost use Rattle.gate_io.specs.Source.{IsAllOf};
+ghost use Rattle.gate_io.specs.Sink.{HasTaken, HasTakenPrefix};
+ghost use Rattle.script_text.specs.declared.kinds.ScriptKind.{ScriptKind};
+ghost use Rattle.script_text.specs.declared.steps.Script.{Script};
+ghost use Rattle.script_text.specs.Meaning.{script_of};
+ghost use Rattle.script_text.specs.Lawful.{IsLawful};
+ghost use Rattle.script_text.specs.Report.{report_of};
+ghost use Rattle.gateway_run.specs.Headline.{AreAdjoining, DeedsAreAsked, IsBoundWhileStanding, IsGarbledCount, IsRun, IsSound, TookOutText, names_of};
+ghost use Rattle.gateway_run.specs.Outcome.{IsBuiltScript, IsCarriedOut, IsUnbuiltAt, Leaves, Refuses, RefusesText, Reports, WritesNothing, no_run};
+ghost use Rattle.gateway_run.specs.Words.{HasCommand};
 
-use crate::engine::Engine;
-use crate::recording::{Recording, RecordingError, read_recording};
-use crate::records::{EngineRecord, LibReport, RunRecord};
-use crate::report::report_text;
+use crate::carrying::carry_out;
+use crate::form::unbuilt_line;
+use crate::laws::meanings_are_sound;
 use crate::statuses::Status;
-use crate::turns::TurnError;
-use crate::words::{Chosen, WordsError, command_of};
-use gate_io::{
-    Bytes, MemWire, NoMemory, ReadAll, Rows, Sink, Source, StepClock, read_all, write_all,
+use crate::words::{WordsError, command_of};
+use gate_io::{NoMemory, ReadAll, Rows, Sink, Source, read_all, write_all};
+use script_text::{
+    EngineRecord, LONGEST_SCRIPT, RunRecord, Script, ScriptError, ScriptKind, read_script,
+    report_text,
 };
 use std::alloc::Global;
 
-/// The longest script that is read, in bytes.
-pub const LONGEST_SCRIPT: usize = 16_777_216;
-
-/// The room that each turn finds for written bytes.
-const ROOM: usize = 1_048_576;
-
 /// Carries out the script that the words name and writes the report of the run.
 ///
-/// Statuses are tested in the order `Usage`, `ReadFault`, `Unbuilt`, `WriteFault`. Where no script
-/// was carried out, and after want of memory, the record is empty.
+/// Statuses are tested in the order `Usage`, `ReadFault`, `ScriptFault`, `Unbuilt`, `WriteFault`.
+/// Where the source tells the bytes that are left, they are the script. The record is empty where
+/// no script was carried out.
 pub fn replay<So: Source, Si: Sink>(
     alloc: Global,
     words: &[String],
     script: &mut So,
     out: &mut Si,
-) -> (Status, RunRecord) {
-    match run(alloc, words, script) {
-        Ok(record) => {
-            let status = write_report(alloc, &record, out);
-            (status, record)
+) -> (Status, RunRecord)
+    // The record is what the script means.
+    ensures meant { Leaves (So.left script.old) result.0 result.1 }
+    // The sink took the report of that record.
+    ensures reported { result.0 ≡ Status.Ok → HasTaken (Si.held out.old) (report_of result.1) (Si.held out.new) }
+    ensures usage { result.0 ≡ Status.Usage → HasCommand (map string_bytes words.now) → ⊥ }
+    ensures no_command { (HasCommand (map string_bytes words.now) → ⊥) → result.0 ≡ Status.Usage }
+    ensures read_fault { result.0 ≡ Status.ReadFault → HasRisen (So.faults script.old) (So.faults script.new) }
+    ensures script_fault { (line : ℕ) (kind : ScriptKind) → result.0 ≡ Status.ScriptFault line kind
+        → IfSome (So.left script.old) (λ text. script_of false text ≡ Err (ScriptError.Fault line kind)) }
+    ensures unbuilt { (line : ℕ) → result.0 ≡ Status.Unbuilt line → IfSome (So.left script.old) (IsUnbuiltAt line) }
+    ensures write_fault { result.0 ≡ Status.WriteFault → HasRisen (Si.faults out.old) (Si.faults out.new) }
+    // A beginning of the report was taken.
+    ensures cut_off { result.0 ≡ Status.WriteFault → HasTakenPrefix (Si.held out.old) (report_of result.1) (Si.held out.new) }
+    ensures nothing_written { WritesNothing result.0 → out.new ≡ out.old }
+    // The journal of each session is lawful.
+    ensures journals { All (λ session. IsRun session.entries) (result.1).engine.sessions }
+    // Its holdings cut the inbound log into adjoining intervals.
+    ensures holdings { All (λ session. AreAdjoining session.holdings (length session.inbound)) (result.1).engine.sessions }
+    // What the journal says that the session did is what the connection's bytes ask for, however they were cut.
+    ensures deeds { DeedsAreAsked (result.1).engine.sessions (result.1).engine.connections }
+    // The garbled bytes are those of the garbled pieces before the one that ended the connection.
+    ensures garbled { All (IsGarbledCount (names_of (result.1).engine.sessions)) (result.1).engine.connections }
+    // What a connection took is its outbound text.
+    ensures outbound { All (TookOutText (result.1).engine.sessions) (result.1).engine.connections }
+    // The session is bound to a connection just while that stands.
+    ensures bound { IsBoundWhileStanding (result.1).engine.sessions (result.1).engine.connections }
+    // Where nothing stands in the way, the run is whole, unless memory is wanting.
+    ensures complete { IfSome (So.left script.old) (λ text. (said : Script) → HasCommand (map string_bytes words.now) → IsBuiltScript text said
+        → (HasRisen (So.faults script.old) (So.faults script.new) → ⊥) → (HasRisen (Si.faults out.old) (Si.faults out.new) → ⊥)
+        → (result.0 ≡ Status.Ok) ⊎ (result.0 ≡ Status.OutOfMemory)) }
+{
+    match run_script(alloc, words, script) {
+        Ok(run) => {
+            let status = write_report(alloc, &run, out);
+            (status, run)
         }
         Err(status) => (status, empty_record(alloc)),
     }
 }
 
-/// What the run of the script leaves, or the status in its place.
-fn run<So: Source>(alloc: Global, words: &[String], script: &mut So) -> Result<RunRecord, Status> {
-    let Chosen::Replay { path: _path } = match command_of(alloc, words) {
-        Ok(chosen) => chosen,
-        Err(WordsError::OutOfMemory) => return Err(Status::OutOfMemory),
-        Err(WordsError::Usage) => return Err(Status::Usage),
-    };
-    let text = match read_all(alloc, script, LONGEST_SCRIPT) {
-        Ok(text) => text,
-        Err(ReadAll::OutOfMemory) => return Err(Status::OutOfMemory),
-        Err(ReadAll::ReadFault) => return Err(Status::ReadFault),
-        Err(ReadAll::TooLong) => return Err(Status::Unbuilt { line: 0 }),
-    };
-    let recording = match read_recording(alloc, text.as_slice()) {
-        Ok(recording) => recording,
-        Err(RecordingError::OutOfMemory) => return Err(Status::OutOfMemory),
-        Err(RecordingError::OtherForm) => return Err(Status::Unbuilt { line: 0 }),
-    };
-    match carry_out(alloc, recording) {
-        Ok(record) => Ok(record),
-        Err(TurnError::OutOfMemory) => Err(Status::OutOfMemory),
-        Err(TurnError::Unbuilt) => Err(Status::Unbuilt { line: 0 }),
-    }
-}
-
-/// Carries out a recording, line by line.
-fn carry_out(alloc: Global, recording: Recording) -> Result<RunRecord, TurnError> {
-    let mut clock = StepClock::new(0);
-    let mut wire = MemWire::new(alloc);
-    let mut engine = Engine::new(alloc, recording.names, recording.moment)?;
-    clock.set(recording.moment);
-    let c = wire.connect(alloc)?;
-    give_frames(alloc, &mut wire, c, recording.frames.as_slice())?;
-    wire.finish(c);
-    make_turns(alloc, &mut engine, &mut wire, &mut clock, recording.turns)?;
-    Ok(RunRecord {
-        engine: engine.finish(alloc)?,
-        libraries: silent_library(alloc)?,
-    })
-}
-
-/// The frames can be read from a connection, in order.
-fn give_frames(alloc: Global, wire: &mut MemWire, c: u32, frames: &[Bytes]) -> Result<(), NoMemory>
-    requires { c < length (wire.old).links }
-    ensures connections { length (wire.new).links ≡ length (wire.old).links }
-    ensures accepted { (wire.new).accepted ≡ (wire.old).accepted }
-{
-    for frame in frames {
-        wire.give(alloc, c, frame.as_slice())?;
-    }
-    Ok(())
-}
-
-/// So many turns, each with room for what it writes.
-fn make_turns(
-    alloc: Global,
-    engine: &mut Engine,
-    wire: &mut MemWire,
-    clock: &mut StepClock,
-    turns: u64,
-) -> Result<(), TurnError>
-    requires { IsServed (engine.old).connection (door_of wire.old) (link_at wire.old) }
-{
-    for _ in 0..turns {
-        wire.reserve(alloc, ROOM)?;
-        engine.turn(alloc, wire, clock)?;
-    }
-    Ok(())
-}
-
-/// The report of library 1, which makes no call.
-fn silent_library(alloc: Global) -> Result<Rows<LibReport>, NoMemory> {
-    let mut libraries = Vec::new(alloc);
-    libraries.push(LibReport {
-        number: 1,
-        reads: 0,
-        finished: true,
-    })?;
-    Ok(Rows::of(libraries))
-}
-
 /// Writes the report of a record.
-fn write_report<Si: Sink>(alloc: Global, record: &RunRecord, out: &mut Si) -> Status {
-    match report_text(alloc, record) {
+fn write_report<Si: Sink>(alloc: Global, run: &RunRecord, out: &mut Si) -> Status
+    ensures { Reports (report_of run.now) (Si.held out.old) (Si.held out.new) (HasRisen (Si.faults out.old) (Si.faults out.new)) (out.new ≡ out.old) result }
+{
+    match report_text(alloc, run) {
         Err(NoMemory::OutOfMemory) => Status::OutOfMemory,
         Ok(text) => match write_all(out, text.as_slice()) {
             Ok(()) => Status::Ok,
@@ -134,7 +90,10 @@ fn write_report<Si: Sink>(alloc: Global, record: &RunRecord, out: &mut Si) -> St
 }
 
 /// The record of a run in which nothing was carried out.
-fn empty_record(alloc: Global) -> RunRecord {
+fn empty_record(alloc: Global) -> RunRecord
+    ensures none { result ≡ no_run }
+    ensures sound { IsSound result.engine }
+{
     RunRecord {
         engine: EngineRecord {
             sessions: Rows::of(Vec::new(alloc)),
@@ -142,5 +101,65 @@ fn empty_record(alloc: Global) -> RunRecord {
             strays: Rows::of(Vec::new(alloc)),
         },
         libraries: Rows::of(Vec::new(alloc)),
+    }
+}
+
+/// What the run of the script leaves, or the status in its place.
+fn run_script<So: Source>(
+    alloc: Global,
+    words: &[String],
+    source: &mut So,
+) -> Result<RunRecord, Status>
+    ensures carried { IfOk result (IsCarriedOut (So.left source.old)) }
+    ensures sound { IfOk result (λ run. IsSound run.engine) }
+    ensures command { OnOk result (HasCommand (map string_bytes words.now)) }
+    ensures refused { IfErr result (Refuses (map string_bytes words.now) (So.left source.old) (So.faults source.old) (So.faults source.new)) }
+{
+    let text = text_of(alloc, words, source)?;
+    let script = script_in(alloc, text.as_slice())?;
+    meanings_are_sound();
+    match carry_out(alloc, &script) {
+        Ok(run) => Ok(run),
+        Err(NoMemory::OutOfMemory) => Err(Status::OutOfMemory),
+    }
+}
+
+/// The bytes of the script, where the words give a command.
+fn text_of<So: Source>(alloc: Global, words: &[String], source: &mut So) -> Result<Vec<u8>, Status>
+    ensures all { IfOk result (λ text. IsAllOf (So.left source.old) text.items) }
+    ensures command { OnOk result (HasCommand (map string_bytes words.now)) }
+    ensures refused { IfErr result (Refuses (map string_bytes words.now) (So.left source.old) (So.faults source.old) (So.faults source.new)) }
+{
+    match command_of(alloc, words) {
+        Ok(_) => {}
+        Err(WordsError::OutOfMemory) => return Err(Status::OutOfMemory),
+        Err(WordsError::Usage) => return Err(Status::Usage),
+    }
+    match read_all(alloc, source, LONGEST_SCRIPT) {
+        Ok(text) => Ok(text),
+        Err(ReadAll::OutOfMemory) => Err(Status::OutOfMemory),
+        Err(ReadAll::ReadFault) => Err(Status::ReadFault),
+        Err(ReadAll::TooLong) => Err(Status::ScriptFault {
+            line: 0,
+            kind: ScriptKind::TooLong,
+        }),
+    }
+}
+
+/// The script that a text is, each line of which is built.
+fn script_in(alloc: Global, text: &[u8]) -> Result<Script, Status>
+    ensures script { IfOk result (IsBuiltScript text.now) }
+    ensures lawful { IfOk result (IsLawful false) }
+    ensures refused { IfErr result (RefusesText text.now) }
+{
+    let script = match read_script(alloc, text, false) {
+        Ok(script) => script,
+        Err(ScriptError::OutOfMemory) => return Err(Status::OutOfMemory),
+        Err(ScriptError::Fault { line, kind }) => return Err(Status::ScriptFault { line, kind }),
+    };
+    match unbuilt_line(alloc, &script) {
+        Ok(None) => Ok(script),
+        Ok(Some(line)) => Err(Status::Unbuilt { line }),
+        Err(NoMemory::OutOfMemory) => Err(Status::OutOfMemory),
     }
 }

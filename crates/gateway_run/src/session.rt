@@ -7,9 +7,8 @@ ghost use Rattle.fix_fields.specs.Fit.{is_session_type};
 ghost use Rattle.fix_fields.specs.Reading.{first_value};
 ghost use Rattle.gateway_run.specs.Session.{has_value, lacks, has_names, number_between, heart_of, seq_num_of, route, log_on, receive, expected_after};
 
-use crate::causes::Cause;
-use crate::records::Names;
 use fix_fields::{Fields, is_session_type, read_number};
+use script_text::{Cause, Names};
 
 /// The greatest MsgSeqNum (34) that is read.
 pub const LAST_NUMBER: u32 = 999_999_999;
@@ -39,7 +38,7 @@ pub fn route(fields: &Fields<'_>, names: &Names) -> Result<Logon, Cause>
     ensures route { result ≡ route fields.now names.now }
     ensures number { IfOk result (λ logon. logon.number ≤ LAST_NUMBER) }
 {
-    if !has_value(fields, 35, b"A") {
+    if !is_logon(fields) {
         return Err(Cause::NotLogon);
     }
     if !has_names(fields, names) {
@@ -58,6 +57,13 @@ pub fn route(fields: &Fields<'_>, names: &Names) -> Result<Logon, Cause>
         Some(number) => Ok(Logon { heart, number }),
         None => Err(Cause::NoNumber),
     }
+}
+
+/// Whether the message is a Logon, by its type (35).
+pub fn is_logon(fields: &Fields<'_>) -> bool
+    ensures { result ≡ has_value 35 (codes "A") fields.now }
+{
+    has_value(fields, 35, b"A")
 }
 
 /// Whether the first field with the tag has this value.

@@ -1,3 +1,7 @@
+ghost use Rattle.std.specs.Prelude.{◌≡◌};
+ghost use Rattle.gateway_run.specs.Codes.{code_of};
+
+use script_text::ScriptKind;
 use std::fmt;
 
 /// How a top call ended.
@@ -13,18 +17,23 @@ pub enum Status {
     ReadFault,
     /// The report can't be written whole. A beginning of it was.
     WriteFault,
-    /// The script has a line that isn't built yet; line 0 says that the script as a whole isn't of
-    /// the form that is built.
+    /// The script is outside the grammar: its first faulty line, from 1, and the fault; line 0 where
+    /// the script as a whole is too long.
+    ScriptFault { line: u32, kind: ScriptKind },
+    /// The script's first line that isn't built yet, from 1.
     Unbuilt { line: u32 },
 }
 
 impl Status {
     /// The program's exit status.
-    pub fn code(&self) -> u8 {
+    pub fn code(&self) -> u8
+        ensures { result ≡ code_of self.now }
+    {
         match self {
             Status::Ok => 0,
             Status::OutOfMemory => 1,
             Status::Usage => 2,
+            Status::ScriptFault { .. } => 3,
             Status::ReadFault => 4,
             Status::WriteFault => 5,
             Status::Unbuilt { .. } => 8,
@@ -44,6 +53,7 @@ impl fmt::Display for Status {
             ),
             Status::ReadFault => write!(f, "fixgate: cannot read the script"),
             Status::WriteFault => write!(f, "fixgate: cannot write the report"),
+            Status::ScriptFault { line, kind } => write!(f, "fixgate: script line {line}: {kind}"),
             Status::Unbuilt { line } => write!(f, "fixgate: line {line} not built"),
         }
     }

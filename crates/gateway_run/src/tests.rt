@@ -2,6 +2,7 @@
 
 use crate::{Chosen, Status, WordsError, command_of, replay};
 use gate_io::{MemSink, MemSource};
+use script_text::ScriptKind;
 use std::alloc::Global;
 use std::test::Fail;
 
@@ -286,7 +287,13 @@ fn the_longest_frame(rt: HostRuntime) -> Result<(), Fail> {
     )?;
     assert_eq!(rt; written.as_slice(), report.as_slice());
     let (status, written) = replayed(alloc, long_script(alloc, 65_456)?, None, 200_000, None)?;
-    assert_eq!(rt; status, Status::Unbuilt { line: 0 });
+    assert_eq!(rt;
+        status,
+        Status::ScriptFault {
+            line: 6,
+            kind: ScriptKind::BadText
+        }
+    );
     assert_eq!(rt; written.len(), 0);
     Ok(())
 }
@@ -341,31 +348,129 @@ fn faults_of_source_and_sink(rt: HostRuntime) -> Result<(), Fail> {
     Ok(())
 }
 
-fn filled(alloc: Global, byte: u8, len: usize) -> Result<Vec<u8>, Fail> {
-    Ok(vec![in alloc; byte; len]?)
+#[test]
+fn small_scripts(rt: HostRuntime) -> Result<(), Fail> {
+    let alloc = rt.alloc();
+    let cases = [
+        ("", "fixgate report 1\nend\n"),
+        ("# nothing\n\nturn", "fixgate report 1\nend\n"),
+        (
+            "session GATE BUYER\nconnect\nfinish 0\nturn\n",
+            "fixgate report 1\nsession 0 GATE BUYER owner 0 lease 0 in 0 out 0\n holding 0 0 from 0 start 0 end 0 sends 0\nconnection 0 session - taken 0 garbled 0 written 0 cause end\nend\n",
+        ),
+        (
+            "libraries 2\nconnect\nturn\nfinish 0\n",
+            "fixgate report 1\nconnection 0 session - taken 0 garbled 0 written 0 cause none\nlibrary 1 reads 0\nlibrary 2 reads 0\nend\n",
+        ),
+        (
+            "option timeout 60000\nsession GATE BUYER\nat 20260105-09:30:00\nat 20260105-09:30:01\nturn\nconnect\nturn\nframe 0 35=A|49=BUYER|56=GATE|34=1|98=0|108=30|\nturn\nfinish 0\nframe 0 35=D|49=BUYER|56=GATE|34=2|11=A1|\n",
+            "fixgate report 1\nsession 0 GATE BUYER owner 0 lease 0 in 0 out 1\n bind 0\n admin 1\n holding 0 0 from 0 start 0 end 0 sends 0\n out 1 20260105-09:30:01.000 35=A|98=0|108=30|\nconnection 0 session 0 taken 61 garbled 0 written 86 cause none\n wrote 8=FIX.4.4|9=64|35=A|49=GATE|56=BUYER|34=1|52=20260105-09:30:01.000|98=0|108=30|10=149|\nend\n",
+        ),
+    ];
+    for (script, report) in cases {
+        let script = Vec::from_slice(alloc, script.as_bytes())?;
+        let (status, written) = replayed(alloc, script, None, 8192, None)?;
+        assert_eq!(rt; status, Status::Ok);
+        assert_eq!(rt; written.as_slice(), report.as_bytes());
+    }
+    Ok(())
 }
 
 #[test]
-fn scripts_that_are_not_built(rt: HostRuntime) -> Result<(), Fail> {
+fn first_faulty_lines(rt: HostRuntime) -> Result<(), Fail> {
     let alloc = rt.alloc();
-    let mut unprintable = Vec::from_slice(alloc, ROW.as_bytes())?;
-    unprintable.insert(8, 7)?;
-    let mut behind = Vec::from_slice(alloc, ROW.as_bytes())?;
-    behind.extend_from_slice(b"finish 0\n")?;
-    let scripts = [
-        Vec::new(alloc),
-        filled(alloc, b'#', 16_777_217)?,
-        unprintable,
-        behind,
-        Vec::from_slice(
-            alloc,
-            b"session GATE BUYER\nlibraries 1\nat 20260105-09:30:00.000\nconnect\nfinish 0\nturn\n",
-        )?,
+    let cases: [(&[u8], u32, ScriptKind); 4] = [
+        (
+            b"session GATE BUYER\nlibraries 1\nturns\n",
+            3,
+            ScriptKind::UnknownWord,
+        ),
+        (
+            b"connect\nconnect\nat 20260105-09:30:60\n",
+            3,
+            ScriptKind::BadNumber,
+        ),
+        (b"lib 9 answer\n", 1, ScriptKind::OutOfRange),
+        (b"turn\nsession GATE BUYER", 2, ScriptKind::Misplaced),
     ];
-    for script in scripts {
+    for (script, line, kind) in cases {
+        let script = Vec::from_slice(alloc, script)?;
         let (status, written) = replayed(alloc, script, None, 8192, None)?;
-        assert_eq!(rt; status, Status::Unbuilt { line: 0 });
+        assert_eq!(rt; written.len(), 0);
+        assert_eq!(rt; status, Status::ScriptFault { line, kind });
+    }
+    Ok(())
+}
+
+#[test]
+fn first_lines_that_are_not_built(rt: HostRuntime) -> Result<(), Fail> {
+    let alloc = rt.alloc();
+    let cases: [(&[u8], u32); 9] = [
+        (
+            b"session GATE BUYER\n\nsession GATE DESK\nconnect\nconnect\n",
+            3,
+        ),
+        (b"connect\n# a comment\nconnect\n", 3),
+        (b"connect\nat 20260105-09:30:00\n", 2),
+        (b"connect\nbytes 0 8=\n", 2),
+        (b"connect\nturn\nfailread 0\n", 3),
+        (b"connect\nblock 0 10\n", 2),
+        (b"libraries 1\nlib 1 poll\n", 2),
+        // There is no session for the Logon.
+        (
+            b"connect\nframe 0 35=A|49=BUYER|56=GATE|34=1|98=0|108=30|\n",
+            2,
+        ),
+        // The second message has the number of the first.
+        (
+            b"session GATE BUYER\nconnect\nframe 0 35=A|49=BUYER|56=GATE|34=1|98=0|108=30|\nframe 0 35=D|49=BUYER|56=GATE|34=1|11=A1|\n",
+            4,
+        ),
+    ];
+    for (script, line) in cases {
+        let script = Vec::from_slice(alloc, script)?;
+        let (status, written) = replayed(alloc, script, None, 8192, None)?;
+        assert_eq!(rt; written.len(), 0);
+        assert_eq!(rt; status, Status::Unbuilt { line });
+    }
+    Ok(())
+}
+
+#[test]
+fn messages_that_are_not_next(rt: HostRuntime) -> Result<(), Fail> {
+    let alloc = rt.alloc();
+    // A Logon of another counterparty, with a number that isn't the first, with a field that isn't as it must be.
+    let bodies = [
+        "35=A|49=DESK|56=GATE|34=1|98=0|108=30|",
+        "35=A|49=BUYER|56=GATE|34=2|98=0|108=30|",
+        "35=A|49=BUYER|56=GATE|34=1|98=1|108=30|",
+        "35=A|49=BUYER|56=GATE|34=1|98=0|108=86401|",
+        "35=A|49=BUYER|56=GATE|34=1|98=0|108=30|141=Y|",
+        "35=D|49=BUYER|56=GATE|34=1|11=A1|",
+        "35=A|49=BUYER|56=GATE|34=1|98=0|108=30|95=1|96=x|",
+    ];
+    for body in bodies {
+        let mut script = Vec::from_slice(alloc, b"session GATE BUYER\nconnect\nframe 0 ")?;
+        script.extend_from_slice(body.as_bytes())?;
+        let (status, written) = replayed(alloc, script, None, 8192, None)?;
+        assert_eq!(rt; status, Status::Unbuilt { line: 3 });
         assert_eq!(rt; written.len(), 0);
     }
+    Ok(())
+}
+
+#[test]
+fn a_script_that_is_too_long(rt: HostRuntime) -> Result<(), Fail> {
+    let alloc = rt.alloc();
+    let script = vec![in alloc; b'#'; 16_777_217]?;
+    let (status, written) = replayed(alloc, script, None, 10, None)?;
+    assert_eq!(rt;
+        status,
+        Status::ScriptFault {
+            line: 0,
+            kind: ScriptKind::TooLong
+        }
+    );
+    assert_eq!(rt; written.len(), 0);
     Ok(())
 }

@@ -2,21 +2,46 @@
 //! FIX 4.4, volume 1, "Message format", on the order of the first fields; volume 2, "Standard
 //! header".
 
-ghost use Rattle.std.specs.Prelude.{◌≡◌, ◌++◌, ◌∷◌, [], IfOk, OnOk, codes};
+ghost use Rattle.std.specs.Prelude.{◌≡◌, ◌≤◌, ◌++◌, ◌∷◌, [], IfOk, OnOk, codes, length};
+ghost use Rattle.fix_frame.specs.Frame.{IsBody, frame_of};
 ghost use Rattle.gateway_run.specs.Outbound.{first_field, behind_first_field, wire_body_of};
 
-use crate::printed::SOH;
-use crate::records::{Names, OutEntry};
 use fix_fields::stamp_text;
-use fix_frame::write_frame;
+use fix_frame::{FrameError, write_frame};
 use gate_io::{LAST_MOMENT, NoMemory};
 use itoa::Buffer;
+use script_text::{Names, OutEntry};
 use std::alloc::Global;
+
+/// SOH, which ends each field.
+const SOH: u8 = 1;
+
+/// The text of an outbound message on its connection. A logged body has at most 8,192 bytes, and a
+/// name 32, so its frame is never too long.
+pub fn wire_text(
+    alloc: Global,
+    number: u64,
+    entry: &OutEntry,
+    names: &Names,
+) -> Result<Vec<u8>, NoMemory>
+    requires is_body { IsBody entry.now.body }
+    requires short { length entry.now.body ≤ 8192 }
+    requires us { length names.now.us ≤ 32 }
+    requires them { length names.now.them ≤ 32 }
+    ensures { IfOk result (λ text. text.items ≡ frame_of (wire_body_of names.now number entry.now)) }
+{
+    let body = wire_body(alloc, number, entry, names)?;
+    match write_frame(alloc, body.as_slice()) {
+        Ok(text) => Ok(text),
+        Err(FrameError::OutOfMemory) => Err(NoMemory::OutOfMemory),
+        Err(FrameError::TooLong { .. }) => unreachable!(),
+    }
+}
 
 /// The body of an outbound message as it is written: its type field, then sender, target, number
 /// and SendingTime, then the rest of the logged body.
-#[tactic(auto, unfolding(crate::specs::Outbound::wire_body_of, crate::specs::Lines::stamp_word))]
-pub fn wire_body(
+#[tactic(auto, unfolding(crate::specs::Outbound::wire_body_of, script_text::specs::ReportLines::stamp_word))]
+fn wire_body(
     alloc: Global,
     number: u64,
     entry: &OutEntry,

@@ -1,9 +1,8 @@
 //! The command that the words behind the program's name give.
 
-ghost use Rattle.std.specs.Prelude.{◌≡◌, ◌↔◌, IfOk, IsErrOf, IsTrue, codes, map, string_bytes};
-ghost use Rattle.gateway_run.specs.declared.words.Chosen.{Chosen};
+ghost use Rattle.std.specs.Prelude.{◌≡◌, ◌↔◌, IfOk, IfSome, IsErrOf, IsNone, IsTrue, codes, map, string_bytes};
 ghost use Rattle.gateway_run.specs.declared.words.WordsError.TheVariants.{OutOfMemory};
-ghost use Rattle.gateway_run.specs.Words.{Gives, is_word};
+ghost use Rattle.gateway_run.specs.Words.{Gives, GivesReplay, HasCommand, is_word};
 
 use gate_io::Label;
 use std::alloc::{AllocError, Global};
@@ -48,17 +47,29 @@ impl From<AllocError> for WordsError {
 /// may be empty or begin with `-`.
 pub fn command_of(alloc: Global, words: &[String]) -> Result<Chosen, WordsError>
     ensures chosen { IfOk result (Gives (map string_bytes words.now)) }
-    ensures usage { IsErrOf result WordsError.Usage → (chosen : Chosen) → Gives (map string_bytes words.now) chosen → ⊥ }
+    ensures usage { IsErrOf result WordsError.Usage → HasCommand (map string_bytes words.now) → ⊥ }
+    ensures wanted { IsErrOf result WordsError.OutOfMemory → HasCommand (map string_bytes words.now) }
+{
+    match replayed(words) {
+        Some(path) => Ok(Chosen::Replay {
+            path: Label::of(String::from_str(alloc, path)?),
+        }),
+        None => Err(WordsError::Usage),
+    }
+}
+
+/// The path of the script that the words have replayed.
+fn replayed(words: &[String]) -> Option<&str>
+    ensures some { IfSome result (λ path. GivesReplay (map string_bytes words.now) path.now) }
+    ensures none { IsNone result → HasCommand (map string_bytes words.now) → ⊥ }
 {
     let [command, path] = words else {
-        return Err(WordsError::Usage);
+        return None;
     };
     if !is_replay(command.as_str()) || !is_word(path.as_str()) {
-        return Err(WordsError::Usage);
+        return None;
     }
-    Ok(Chosen::Replay {
-        path: Label::of(String::from_str(alloc, path.as_str())?),
-    })
+    Some(path.as_str())
 }
 
 fn is_replay(word: &str) -> bool

@@ -1,0 +1,5 @@
+use Rattle.gateway_run.proofs.Sound.{is_sound}
+use Rattle.gateway_run.proofs.laws.meanings_are_sound.Goals as goal
+
+pub returns : goal.returns
+returns c = is_sound
