@@ -1,0 +1,12 @@
+pub mod Lasts
+pub mod Pushed
+pub mod Spans
+pub mod Lawful
+pub mod Nexts
+pub mod Kept
+pub mod Raised
+pub mod Settled
+pub mod Words
+pub mod GivenBack
+pub mod Causes
+pub mod WordsShown

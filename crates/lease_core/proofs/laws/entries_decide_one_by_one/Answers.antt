@@ -1,0 +1,8 @@
+use Rattle.lease_core.proofs.Pushed.{state_of-push, run_push, run_before}
+use Rattle.lease_core.proofs.laws.entries_decide_one_by_one.Goals as goal
+
+pub returns-clause-state : goal.returns-clause-state
+returns-clause-state c = state_of-push
+
+pub returns-clause-run : goal.returns-clause-run
+returns-clause-run c = λ limit entries e. (run_before limit entries e, λ both. run_push limit entries e both.0 both.1)

@@ -1,0 +1,12 @@
+use Rattle.lease_core.proofs.Raised.{lines-extended}
+use Rattle.lease_core.proofs.WordsShown.{lines-held, lines-timed_out}
+use Rattle.lease_core.proofs.laws.lines_of_extended_are_raised.Goals as goal
+
+pub returns-clause-shown : goal.returns-clause-shown
+returns-clause-shown c = lines-extended
+
+pub returns-clause-held : goal.returns-clause-held
+returns-clause-held c = lines-held
+
+pub returns-clause-timed_out : goal.returns-clause-timed_out
+returns-clause-timed_out c = lines-timed_out

@@ -1,0 +1,14 @@
+use Rattle.std.proofs.Common.{◌≡◌, refl, subst, sym, Some}
+use Rattle.lease_core.specs.State.{state_of}
+use Rattle.lease_core.specs.Kept.{Kept}
+use Rattle.lease_core.specs.declared.event.Event.TheVariants.{Leaves}
+use Rattle.lease_core.proofs.Settled.{next_by, settled_by}
+use Rattle.lease_core.proofs.registry.Registry.leave.Goals as goal
+
+pub push-requires-clause-next : goal.push-requires-clause-next
+push-requires-clause-next c =
+    let bound = subst (λ (k : Kept). (state_of k.entries).bound ≡ Some c.args.c) (sym c.self.view_is) c.requires.bound in
+    next_by _ _ (Leaves c.args.c) tt bound refl c.self.invariant
+
+pub invariant_of-self : goal.invariant_of-self
+invariant_of-self c = rw c.push.ensures.entries (settled_by _ _ refl)

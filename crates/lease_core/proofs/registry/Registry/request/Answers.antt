@@ -1,0 +1,31 @@
+-- the answer's cause, and its entry
+use Rattle.std.proofs.Common.{ap, sym, ◌∙◌}
+use Rattle.lease_core.specs.State.{state_of}
+use Rattle.lease_core.specs.Steps.{reply_to}
+use Rattle.lease_core.specs.Kept.{Kept}
+use Rattle.lease_core.proofs.Settled.{next_request, settled_by, settled_request}
+use Rattle.lease_core.proofs.Causes.{when_granted, when_owned, when_reserved, when_spent, when_missing}
+use Rattle.lease_core.proofs.registry.Registry.request.Goals as goal
+
+pub push-requires-clause-next : goal.push-requires-clause-next
+push-requires-clause-next c =
+    let there = c.reply-reply.ensures ∙ ap (λ (k : Kept). reply_to k.leases (state_of k.entries) c.args.library c.args.from) (sym c.self.view_is) in
+    rw (c.entry_with.ensures, there) (next_request _ _ c.args.library c.args.nr c.args.from c.requires.library c.self.invariant)
+
+pub invariant_of-self : goal.invariant_of-self
+invariant_of-self c = rw (c.push.ensures.entries, c.entry_with.ensures) (settled_by _ _ (settled_request c.args.library c.args.nr c.args.from c.reply-reply.result))
+
+pub returns-clause-granted : goal.returns-clause-granted
+returns-clause-granted c = rw c.reply-reply.ensures (when_granted c.args.self.now.leases (state_of c.args.self.now.entries) c.args.library c.args.from)
+
+pub returns-clause-other_owner : goal.returns-clause-other_owner
+returns-clause-other_owner c = rw c.reply-reply.ensures (when_owned c.args.self.now.leases (state_of c.args.self.now.entries) c.args.library c.args.from)
+
+pub returns-clause-reserved : goal.returns-clause-reserved
+returns-clause-reserved c = rw c.reply-reply.ensures (when_reserved c.args.self.now.leases (state_of c.args.self.now.entries) c.args.library c.args.from)
+
+pub returns-clause-leases_spent : goal.returns-clause-leases_spent
+returns-clause-leases_spent c = rw c.reply-reply.ensures (when_spent c.args.self.now.leases (state_of c.args.self.now.entries) c.args.library c.args.from)
+
+pub returns-clause-missing : goal.returns-clause-missing
+returns-clause-missing c = rw c.reply-reply.ensures (when_missing c.args.self.now.leases (state_of c.args.self.now.entries) c.args.library c.args.from)

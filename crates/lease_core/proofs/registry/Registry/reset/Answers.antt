@@ -1,0 +1,15 @@
+use Rattle.std.proofs.Common.{refl, subst, sym, IsTrue}
+use Rattle.lease_core.specs.State.{state_of}
+use Rattle.lease_core.specs.Kept.{Kept}
+use Rattle.lease_core.specs.Runs.{is_bind}
+use Rattle.lease_core.specs.declared.event.Event.TheVariants.{Resets}
+use Rattle.lease_core.proofs.Settled.{next_by, settled_by}
+use Rattle.lease_core.proofs.registry.Registry.reset.Goals as goal
+
+pub push-requires-clause-next : goal.push-requires-clause-next
+push-requires-clause-next c =
+    let bound = subst (λ (k : Kept). IsTrue (is_bind (state_of k.entries).latest)) (sym c.self.view_is) c.requires.bound in
+    rw c.totals.ensures.totals (next_by _ _ Resets tt bound refl c.self.invariant)
+
+pub invariant_of-self : goal.invariant_of-self
+invariant_of-self c = rw c.push.ensures.entries (settled_by _ _ refl)

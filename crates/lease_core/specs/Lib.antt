@@ -1,0 +1,9 @@
+pub mod Word
+pub mod State
+pub mod Steps
+pub mod Runs
+pub mod Lines
+pub mod Holdings
+pub mod Totals
+pub mod Kept
+pub mod Laws
