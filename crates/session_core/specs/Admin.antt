@@ -1,0 +1,51 @@
+-- The bodies of the session messages that are sent (FIX 4.4, volume 2, "Session Protocol", the messages' fields).
+use Rattle.std.specs.Prelude.{ℕ, ◌++◌, ◌∷◌, [], List, Bool, if◌then◌else◌, codes, decimal, length, nat_le, Option, None, Some}
+use Rattle.session_core.specs.declared.acts.Admin.{Admin}
+use Rattle.session_core.specs.declared.acts.Admin.TheVariants.{Logon, Heartbeat, TestRequest, ResendRequest, Reject, Logout}
+
+-- a field with its tag and `=` before its value; 1 is the code of SOH
+abbrev pub field : List ℕ → List ℕ → List ℕ
+field tag value = tag ++ (value ++ 1 ∷ [])
+
+abbrev pub number_field : List ℕ → ℕ → List ℕ
+number_field tag n = field tag (decimal n)
+
+-- Logon: no encryption, HeartBtInt (108), and ResetSeqNumFlag (141) where the numbers begin again
+unfoldable pub logon_text : ℕ → Bool → List ℕ
+logon_text heart reset =
+    let head = field (codes "35=") (codes "A") ++ field (codes "98=") (codes "0") ++ number_field (codes "108=") heart in
+    if reset then head ++ field (codes "141=") (codes "Y") else head
+
+-- Heartbeat: the TestReqID (112) where it answers a TestRequest
+unfoldable pub heartbeat_text : Option (List ℕ) → List ℕ
+heartbeat_text None = field (codes "35=") (codes "0")
+heartbeat_text (Some test) = field (codes "35=") (codes "0") ++ field (codes "112=") test
+
+-- TestRequest: its own number is its TestReqID
+unfoldable pub test_request_text : ℕ → List ℕ
+test_request_text number = field (codes "35=") (codes "1") ++ number_field (codes "112=") number
+
+-- ResendRequest: the first and the last number that are asked for
+unfoldable pub resend_request_text : ℕ → ℕ → List ℕ
+resend_request_text begin last =
+    field (codes "35=") (codes "2") ++ number_field (codes "7=") begin ++ number_field (codes "16=") last
+
+-- Reject: the number of the rejected message, the field, the message's type unless that is long, and the reason
+unfoldable pub reject_text : ℕ → ℕ → List ℕ → ℕ → List ℕ
+reject_text seq tag kind reason =
+    let head = field (codes "35=") (codes "3") ++ number_field (codes "45=") seq ++ number_field (codes "371=") tag in
+    (if nat_le (length kind) 32 then head ++ field (codes "372=") kind else head) ++ number_field (codes "373=") reason
+
+-- Logout: its text, if it has one
+unfoldable pub logout_text : Option (List ℕ) → List ℕ
+logout_text None = field (codes "35=") (codes "5")
+logout_text (Some text) = field (codes "35=") (codes "5") ++ field (codes "58=") text
+
+-- the body of a session message that is sent with this number
+abbrev pub admin_text : Admin → ℕ → List ℕ
+admin_text (Logon heart reset) number = logon_text heart reset
+admin_text (Heartbeat test) number = heartbeat_text test
+admin_text TestRequest number = test_request_text number
+admin_text (ResendRequest begin last) number = resend_request_text begin last
+admin_text (Reject seq tag kind reason) number = reject_text seq tag kind reason
+admin_text (Logout text) number = logout_text text

@@ -1,0 +1,12 @@
+-- What the contracts speak of.
+pub mod Admin
+pub mod Carry
+pub mod Holding
+pub mod Receive
+pub mod Replies
+pub mod Route
+pub mod Runs
+pub mod Said
+pub mod State
+pub mod Steps
+pub mod Tick

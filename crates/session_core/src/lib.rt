@@ -1,0 +1,36 @@
+//! The session machine of the accepting side: what a message, the clock and a connection's end mean
+//! for one session.
+//!
+//! FIX 4.4, volume 2, "Session Protocol". The machine sends nothing itself: it takes bodies and
+//! moments, and answers with acts, in order, and with the cause by which a connection ends.
+#![tactic(auto)]
+
+mod acts;
+mod admin_text;
+mod carry;
+mod causes;
+mod inbound;
+pub mod laws;
+mod logons;
+mod names;
+mod phases;
+#[cfg(test)]
+mod plain;
+mod reading;
+mod replies;
+mod routing;
+mod said;
+mod session;
+mod steps;
+mod tasks;
+#[cfg(test)]
+mod tests;
+mod ticks;
+
+pub use acts::{Act, Admin, Effects};
+pub use admin_text::admin_body;
+pub use causes::Cause;
+pub use names::Names;
+pub use routing::{MOST_SESSIONS, route, session_of};
+pub use said::LONGEST_HEARTBEAT;
+pub use session::Session;

@@ -1,0 +1,321 @@
+//! A session of the accepting side.
+
+ghost use Rattle.std.specs.Prelude.{◌≡◌, ℕ, ◌+◌, ◌≤◌, nat_lt, true, [], ◌∷◌, if◌then◌else◌, None, Some, IfOk, IfSome, IfNone, OnOk, OnErr};
+ghost use Rattle.std.specs.List.{list_any};
+ghost use Rattle.seq_gaps.specs.Line.{opening, filled};
+ghost use Rattle.session_core.specs.Receive.{receive, after_receive, is_send, no_effects};
+ghost use Rattle.session_core.specs.State.{unbound, left, heart_in};
+ghost use Rattle.session_core.specs.Tick.{tick, after_tick, tick_of, does_nothing_at};
+
+use crate::acts::{Act, Admin, Effects};
+use crate::carry::{OWN_ACTS, carry_step};
+use crate::causes::Cause;
+use crate::inbound::Inbound;
+use crate::logons::log_on;
+use crate::names::Names;
+use crate::phases::Phase;
+use crate::reading::{read_step, read_terms};
+use crate::ticks::Tick;
+use gate_io::{Bytes, LAST_MOMENT, NoMemory, Rows};
+use seq_gaps::MAX_NUMBER;
+use std::alloc::Global;
+use std::marker::Model;
+
+/// A session: its names, whether a Logon was answered on a connection that stands, its number line,
+/// and the moments by which its clock goes, in milliseconds since 1970-01-01.
+#[derive(Debug, Drop)]
+pub struct Session {
+    names: Names,
+    phase: Phase,
+    line: Inbound,
+    received: u64,
+    sent: u64,
+    waiting: Option<u64>,
+}
+
+impl Model for Session {
+    ghost use Rattle.std.specs.Coded.{codes};
+    ghost use Rattle.seq_gaps.specs.Line.{line_code};
+    ghost use Rattle.session_core.specs.State.{State, IsState};
+    ghost use Rattle.session_core.specs.contracts.tasks.Task as task;
+
+    ghost Value = { State };
+
+    ghost coded = { Prim.hlevel (codes, line_code task.the_row.coded) };
+
+    ghost view = { λ s. record { names = s.names; phase = s.phase; line = s.line; received = s.received; sent = s.sent; waiting = s.waiting } };
+
+    ghost invariant = { λ s. IsState (record { names = s.names; phase = s.phase; line = s.line; received = s.received; sent = s.sent; waiting = s.waiting }) };
+}
+
+impl Session {
+    /// A session of which nothing was heard: it expects number 1.
+    pub fn new(alloc: Global, us: Vec<u8>, them: Vec<u8>) -> Result<Session, NoMemory>
+        ensures { IfOk result (λ session. session ≡ unbound us.items them.items opening) }
+    {
+        let line = Inbound::new(alloc)?;
+        Ok(Session::with_line(us, them, line))
+    }
+
+    /// A session that goes on from a record: it expects this number.
+    pub fn resume(
+        alloc: Global,
+        us: Vec<u8>,
+        them: Vec<u8>,
+        expected: u32,
+    ) -> Result<Session, NoMemory>
+        requires from { 1 ≤ expected }
+        requires to { expected ≤ MAX_NUMBER + 1 }
+        ensures { IfOk result (λ session. session ≡ unbound us.items them.items (filled opening expected)) }
+    {
+        let line = Inbound::expecting(alloc, expected)?;
+        Ok(Session::with_line(us, them, line))
+    }
+
+    fn with_line(us: Vec<u8>, them: Vec<u8>, line: Inbound) -> Session
+        ensures { result ≡ unbound us.items them.items line }
+    {
+        let us = Bytes::of(us);
+        let them = Bytes::of(them);
+        Session {
+            names: Names { us, them },
+            phase: Phase::Off,
+            line,
+            received: 0,
+            sent: 0,
+            waiting: None,
+        }
+    }
+
+    /// The number that is expected next, with which `resume` goes on.
+    pub fn expected(&self) -> u32
+        ensures number { result ≡ self.now.line.expected }
+        ensures from { 1 ≤ result }
+        ensures to { result ≤ MAX_NUMBER + 1 }
+    {
+        self.line.next_number()
+    }
+
+    /// An item for the connection was queued at this moment.
+    pub fn sent(&mut self, moment: u64)
+        requires { moment ≤ LAST_MOMENT }
+        ensures { self.new ≡ record self.old { sent = moment } }
+    {
+        self.sent = moment;
+    }
+
+    /// The connection ended.
+    pub fn leave(&mut self)
+        ensures { self.new ≡ left self.old }
+    {
+        self.phase = Phase::Off;
+        self.line.clear();
+        self.waiting = None;
+    }
+
+    /// A message with this body came at this moment. On a session that is off it is the Logon of the
+    /// connection that is bound now, which `route` refused for no cause; one that it would refuse
+    /// counts for nothing. A body whose fields can't be read counts for nothing. What is sent sets
+    /// the moment of the last sending; for the items of a `Resend` the caller calls `sent`.
+    pub fn receive(
+        &mut self,
+        alloc: Global,
+        body: Vec<u8>,
+        moment: u64,
+    ) -> Result<Effects, NoMemory>
+        requires { moment ≤ LAST_MOMENT }
+        ensures effects { IfOk result (λ effects. effects ≡ receive self.old body.items moment) }
+        ensures state { OnOk result (self.new ≡ after_receive self.old body.items moment) }
+        ensures err { OnErr result (self.new ≡ self.old) }
+    {
+        match self.phase {
+            Phase::Off => self.receive_first(alloc, body.as_slice(), moment),
+            Phase::On { .. } => self.receive_next(alloc, body, moment),
+        }
+    }
+
+    #[tactic(auto, unfolding(crate::specs::Receive::outcome), using(crate::proofs::Heard::logged_on_heard))]
+    fn receive_first(
+        &mut self,
+        alloc: Global,
+        body: &[u8],
+        moment: u64,
+    ) -> Result<Effects, NoMemory>
+        requires off { self.old.phase ≡ Phase.Off }
+        requires moment { moment ≤ LAST_MOMENT }
+        ensures effects { IfOk result (λ effects. effects ≡ receive self.old body.now moment) }
+        ensures state { OnOk result (self.new ≡ after_receive self.old body.now moment) }
+        ensures err { OnErr result (self.new ≡ self.old) }
+    {
+        let Some(terms) = read_terms(alloc, body)? else {
+            return Ok(nothing(alloc));
+        };
+        let (phase, effects) = log_on(alloc, &mut self.line, terms)?;
+        self.phase = phase;
+        self.received = moment;
+        self.sent = last_sending(effects.acts.as_slice(), self.sent, moment);
+        self.waiting = None;
+        Ok(effects)
+    }
+
+    #[tactic(auto, unfolding(crate::specs::Receive::outcome))]
+    fn receive_next(
+        &mut self,
+        alloc: Global,
+        body: Vec<u8>,
+        moment: u64,
+    ) -> Result<Effects, NoMemory>
+        requires on { self.old.phase ≡ Phase.On (heart_in self.old.phase) }
+        requires moment { moment ≤ LAST_MOMENT }
+        ensures effects { IfOk result (λ effects. effects ≡ receive self.old body.items moment) }
+        ensures state { OnOk result (self.new ≡ after_receive self.old body.items moment) }
+        ensures err { OnErr result (self.new ≡ self.old) }
+    {
+        let expected = self.line.next_number();
+        let Some(step) = read_step(alloc, &self.names, expected, body.as_slice())? else {
+            return Ok(nothing(alloc));
+        };
+        let mut acts = Vec::with_capacity(alloc, OWN_ACTS + self.line.most_held())?;
+        let end = carry_step(&mut self.line, &mut acts, step, body);
+        self.received = moment;
+        self.sent = last_sending(acts.as_slice(), self.sent, moment);
+        self.waiting = None;
+        Ok(Effects {
+            acts: Rows::of(acts),
+            end,
+        })
+    }
+
+    /// The clock stands at this moment. FIX 4.4, volume 2, "Heartbeat", "Test Request".
+    pub fn tick(&mut self, alloc: Global, moment: u64) -> Result<Effects, NoMemory>
+        requires { moment ≤ LAST_MOMENT }
+        ensures effects { IfOk result (λ effects. effects ≡ tick self.old moment) }
+        ensures state { OnOk result (self.new ≡ after_tick self.old moment) }
+        ensures err { OnErr result (self.new ≡ self.old) }
+    {
+        match self.tick_at(moment) {
+            Tick::Quiet => Ok(nothing(alloc)),
+            Tick::Beat => {
+                let effects = one_sent(alloc, Admin::Heartbeat { test: None })?;
+                self.sent = moment;
+                Ok(effects)
+            }
+            Tick::Test => {
+                let effects = one_sent(alloc, Admin::TestRequest)?;
+                self.sent = moment;
+                self.waiting = Some(moment);
+                Ok(effects)
+            }
+            Tick::Expire => Ok(silent(alloc, self.received)),
+        }
+    }
+
+    /// The least moment at which a tick does something, as long as nothing else happens; None where
+    /// there is none.
+    pub fn due(&self) -> Option<u64>
+        ensures some { IfSome result (λ due. (moment : ℕ) → does_nothing_at self.now moment ≡ nat_lt moment due) }
+        ensures none { IfNone result ((moment : ℕ) → moment ≤ LAST_MOMENT → does_nothing_at self.now moment ≡ true) }
+        ensures limit { IfSome result (λ due. due ≤ LAST_MOMENT) }
+    {
+        let due = self.next_due()?;
+        if due <= LAST_MOMENT { Some(due) } else { None }
+    }
+
+    /// The least number that is no less than such a moment, also one past the last moment.
+    #[tactic(auto, unfolding(crate::specs::Tick::tick_of), using(crate::proofs::Dues::quiet_before))]
+    fn next_due(&self) -> Option<u64>
+        ensures some { IfSome result (λ due. (moment : ℕ) → does_nothing_at self.now moment ≡ nat_lt moment due) }
+        ensures none { IfNone result ((moment : ℕ) → does_nothing_at self.now moment ≡ true) }
+    {
+        let Phase::On { heart } = self.phase else {
+            return None;
+        };
+        if heart == 0 {
+            return None;
+        }
+        let heart = heart as u64;
+        let beat = self.sent + 1000 * heart;
+        match self.waiting {
+            Some(since) => Some(beat.min(since + 1000 * heart)),
+            None => Some(beat.min(self.received + 1200 * heart)),
+        }
+    }
+
+    /// Which rule of the clock applies at this moment.
+    #[tactic(auto, unfolding(crate::specs::Tick::tick_of))]
+    fn tick_at(&self, moment: u64) -> Tick
+        ensures { result ≡ tick_of self.now moment }
+    {
+        let Phase::On { heart } = self.phase else {
+            return Tick::Quiet;
+        };
+        if heart == 0 {
+            return Tick::Quiet;
+        }
+        let heart = heart as u64;
+        match self.waiting {
+            Some(since) if since + 1000 * heart <= moment => Tick::Expire,
+            None if self.received + 1200 * heart <= moment => Tick::Test,
+            _ if self.sent + 1000 * heart <= moment => Tick::Beat,
+            _ => Tick::Quiet,
+        }
+    }
+}
+
+/// Nothing follows. It takes no memory.
+fn nothing(alloc: Global) -> Effects
+    ensures { result ≡ no_effects }
+{
+    Effects {
+        acts: Rows::of(Vec::new(alloc)),
+        end: None,
+    }
+}
+
+/// One session message is sent.
+fn one_sent(alloc: Global, admin: Admin) -> Result<Effects, NoMemory>
+    ensures { IfOk result (λ effects. effects ≡ record { acts = Act.Send admin ∷ []; end = None }) }
+{
+    let mut acts = Vec::with_capacity(alloc, 1)?;
+    acts.push_reserved(Act::Send(admin));
+    Ok(Effects {
+        acts: Rows::of(acts),
+        end: None,
+    })
+}
+
+/// The connection is dropped, as nothing came since this moment.
+fn silent(alloc: Global, since: u64) -> Effects
+    ensures { result ≡ record { acts = []; end = Some (Cause.Silent since) } }
+{
+    Effects {
+        acts: Rows::of(Vec::new(alloc)),
+        end: Some(Cause::Silent { since }),
+    }
+}
+
+/// The moment of the last sending behind acts of this moment.
+fn last_sending(acts: &[Act], before: u64, moment: u64) -> u64
+    requires before { before ≤ LAST_MOMENT }
+    requires moment { moment ≤ LAST_MOMENT }
+    ensures sent { result ≡ (if list_any is_send acts.now then moment else before) }
+    ensures limit { result ≤ LAST_MOMENT }
+{
+    if sends(acts) { moment } else { before }
+}
+
+/// Whether one of the acts sends a session message.
+fn sends(acts: &[Act]) -> bool
+    ensures { result ≡ list_any is_send acts.now }
+{
+    acts.iter().any(is_send)
+}
+
+fn is_send(act: &Act) -> bool
+    ensures { result ≡ is_send act.now }
+{
+    match act {
+        Act::Send(_) => true,
+        Act::Accept(_) | Act::Resend { .. } | Act::Reset => false,
+    }
+}
