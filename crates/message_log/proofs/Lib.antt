@@ -1,0 +1,9 @@
+pub mod Places
+pub mod PageLists
+pub mod Halving
+pub mod SeriesLists
+pub mod Sessions
+pub mod IndexKept
+pub mod LogParts
+pub mod Entries
+pub mod StretchEnds

@@ -1,0 +1,41 @@
+-- what the parts are with one more series
+use Rattle.std.proofs.Common.{length, ap, arith}
+use Rattle.message_log.specs.declared.entry.OutEntry.{OutEntry}
+use Rattle.message_log.specs.Series.{Numbered}
+use Rattle.message_log.proofs.LogParts.{size, start_inside, turned, turned_series}
+use Rattle.message_log.proofs.out_log.OutLog.turn_over.Goals as goal
+
+pub overflow_sub-last : goal.overflow_sub-last
+overflow_sub-last c =
+    let inside = c.self.inside in
+    let within = start_inside inside.entries.items inside.starts.items inside.start inside.stretches.closed.items inside.stretches.growing c.self.invariant in
+    omega (arith, within)
+
+pub overflow_add-result : goal.overflow_add-result
+overflow_add-result c =
+    let inside = c.self.inside in
+    let series = ap (λ (l : Numbered OutEntry). length l.series) c.self.view_is in
+    let all = size inside.entries.items inside.starts.items inside.start inside.stretches.closed.items inside.stretches.growing c.self.invariant in
+    let small = c.requires in
+    omega arith
+
+pub invariant_of-self-2 : goal.invariant_of-self-2
+invariant_of-self-2 c =
+    let inside = c.self.inside in
+    let series = ap (λ (l : Numbered OutEntry). length l.series) c.self.view_is in
+    let all = size inside.entries.items inside.starts.items inside.start inside.stretches.closed.items inside.stretches.growing c.self.invariant in
+    let small = c.requires in
+    rw (c.in_ok-push.ensures.ok, c.close.ensures.closed, c.close.ensures.growing, c.reserve.ensures.items, c.len.ensures, c.len-end.ensures.length) (turned inside.entries.items inside.starts.items inside.start inside.stretches.closed.items inside.stretches.growing c.self.invariant (omega arith))
+
+pub returns-clause-ok : goal.returns-clause-ok
+returns-clause-ok c =
+    let inside = c.self.inside in
+    let series = ap (λ (l : Numbered OutEntry). l.series) c.self.view_is in
+    rw (c.in_ok-push.ensures.ok, ← series, c.len-end.ensures.length) (turned_series inside.entries.items inside.starts.items inside.start inside.stretches.closed.items inside.stretches.growing c.self.invariant)
+
+pub returns-clause-series : goal.returns-clause-series
+returns-clause-series c =
+    let inside = c.self.inside in
+    let series = ap (λ (l : Numbered OutEntry). length l.series) c.self.view_is in
+    let all = size inside.entries.items inside.starts.items inside.start inside.stretches.closed.items inside.stretches.growing c.self.invariant in
+    omega arith

@@ -1,0 +1,5 @@
+pub mod Stored
+pub mod Pages
+pub mod Series
+pub mod Stretches
+pub mod OutLog
