@@ -1,0 +1,66 @@
+-- The body of a message as it is written: its type, the rest of the header, and then the rest of its entry.
+use Rattle.std.specs.Prelude.{ℕ, false, ◌==◌, if◌then◌else◌, min, List, [], ◌∷◌, ◌++◌, codes, decimal, Option, Some, None, unwrap_or, IsSome}
+use Rattle.fix_fields.specs.Stamp.{stamp_of}
+use Rattle.gate_io.specs.declared.clocks.TheConstants.{LAST_MOMENT}
+use Rattle.message_log.specs.declared.entry.OutEntry.{OutEntry}
+use Rattle.message_log.specs.Series.{entry_at}
+use Rattle.resend_plan.specs.declared.item.Names2.{Names2}
+use Rattle.resend_plan.specs.declared.item.WireItem.{WireItem}
+use Rattle.resend_plan.specs.declared.item.WireItem.TheVariants.{New, Again, GapFill}
+
+-- a body up to the end of its first field, which is its type; 1 is the code of SOH
+abbrev pub type_field : List ℕ → List ℕ
+type_field [] = []
+type_field (b ∷ bytes) = if b == 1 then b ∷ [] else b ∷ type_field bytes
+
+-- what lies behind the first field of a body
+abbrev pub behind_type : List ℕ → List ℕ
+behind_type [] = []
+behind_type (b ∷ bytes) = if b == 1 then bytes else behind_type bytes
+
+-- a field: its tag and `=`, its value, and SOH
+abbrev pub field : List ℕ → List ℕ → List ℕ
+field tag value = tag ++ (value ++ 1 ∷ [])
+
+-- a moment as a UTCTimestamp: a later one than the last is taken as that one
+unfoldable pub stamp : ℕ → List ℕ
+stamp at = stamp_of (min at LAST_MOMENT)
+
+-- SendingTime (52) alone, or between PossDupFlag (43) and OrigSendingTime (122)
+unfoldable pub sending : ℕ → Option ℕ → List ℕ
+sending at None = field (codes "52=") (stamp at)
+sending at (Some original) = field (codes "43=") (codes "Y") ++ field (codes "52=") (stamp at) ++ field (codes "122=") (stamp original)
+
+-- type, SenderCompID (49), TargetCompID (56) and MsgSeqNum (34)
+unfoldable pub opening : Names2 → List ℕ → ℕ → List ℕ
+opening names kind number =
+    kind ++ field (codes "49=") names.us ++ field (codes "56=") names.them ++ field (codes "34=") (decimal number)
+
+-- and then the times, and the rest
+abbrev pub message : Names2 → List ℕ → ℕ → List ℕ → List ℕ → List ℕ
+message names kind number times rest = opening names kind number ++ times ++ rest
+
+-- an entry that stands for none
+abbrev pub no_entry : OutEntry
+no_entry = record { at = 0; admin = false; body = [] }
+
+abbrev pub entry_of : List (List OutEntry) → ℕ → ℕ → OutEntry
+entry_of log series number = unwrap_or (entry_at log series number) no_entry
+
+-- the item is a gap fill, or names an entry of the log
+abbrev pub NamesEntry : List (List OutEntry) → WireItem → Type 0
+NamesEntry log (New series number) = IsSome (entry_at log series number)
+NamesEntry log (Again series number at) = IsSome (entry_at log series number)
+NamesEntry log (GapFill series number to at) = Unit {0}
+
+-- A new message has its entry's moment. One that is sent again has the moment of its sending, and its entry's as the original one.
+-- A gap fill is a SequenceReset (35=4) with GapFillFlag (123) and NewSeqNo (36), and has one moment as both.
+unfoldable pub body_of : Names2 → List (List OutEntry) → WireItem → List ℕ
+body_of names log (New series number) =
+    let entry = entry_of log series number in
+    message names (type_field entry.body) number (sending entry.at None) (behind_type entry.body)
+body_of names log (Again series number at) =
+    let entry = entry_of log series number in
+    message names (type_field entry.body) number (sending at (Some entry.at)) (behind_type entry.body)
+body_of names log (GapFill series number to at) =
+    message names (field (codes "35=") (codes "4")) number (sending at (Some at)) (field (codes "123=") (codes "Y") ++ field (codes "36=") (decimal to))
