@@ -1,0 +1,22 @@
+use Rattle.std.proofs.Common.{rules, ◌≡◌, ◌<◌, ap, sym, subst}
+use Rattle.lease_words.proofs.Tokens.{lease_within}
+use Rattle.lease_words.proofs.EngineCalls.{engine_rests, revoke_step, revoke_owes}
+use Rattle.lease_words.proofs.leases.Leases.revoke.Goals as goal
+
+pub fetch_or-n-requires : goal.fetch_or-n-requires
+fetch_or-n-requires c =
+    let shape : c.seat.inside.seat.me.0.shape ≡ c.self.inside.table.shared.key = search rules in
+    let here = subst (λ n. c.args.s < n) (ap (λ t. t.shape.sessions) (sym c.self.view_is)) c.requires.session in
+    (search rules, lease_within _ _ _ _ _ _ _ _ c.self.invariant here c.lease_word.ensures, revoke_step _ _ _ c.args.s _ _ _ _ (engine_rests _ _ _ c.seat.invariant shape) here c.lease_word.ensures (search rules))
+
+pub see-requires-clause-room : goal.see-requires-clause-room
+see-requires-clause-room c =
+    let shape : c.seat.inside.seat.me.0.shape ≡ c.self.inside.table.shared.key = search rules in
+    let here = subst (λ n. c.args.s < n) (ap (λ t. t.shape.sessions) (sym c.self.view_is)) c.requires.session in
+    (revoke_owes _ c.fetch_or-n.new.seat _ _ 0 _ _ 0 _ _ _ c.seat.invariant shape c.self.invariant.shape here c.lease_word.ensures c.read_word-word.ensures.word c.index_mut.ensures.value c.fetch_or-n.ensures.2).room
+
+pub invariant_of-seat : goal.invariant_of-seat
+invariant_of-seat c =
+    let shape : c.seat.inside.seat.me.0.shape ≡ c.self.inside.table.shared.key = search rules in
+    let here = subst (λ n. c.args.s < n) (ap (λ t. t.shape.sessions) (sym c.self.view_is)) c.requires.session in
+    (revoke_owes _ _ _ _ 0 _ _ 0 _ _ _ c.seat.invariant shape c.self.invariant.shape here c.lease_word.ensures c.read_word-word.ensures.word c.index_mut.ensures.value c.fetch_or-n.ensures.2).again _ c.see.ensures.lease c.see.ensures.library c.see.ensures.count c.see.ensures.pending

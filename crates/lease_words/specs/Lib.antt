@@ -1,0 +1,10 @@
+pub mod Layout
+pub mod Leases
+pub mod Views
+pub mod Sees
+pub mod Facts
+pub mod Rule
+pub mod Tells
+pub mod Tokens
+pub mod Answers
+pub mod Laws

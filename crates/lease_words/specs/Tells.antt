@@ -1,0 +1,319 @@
+-- What each step tells. A step finds its session, and its library where it has one, by the place of its word: `LookOf s` is what a look at session s
+-- tells, and `LookTells` the same of the session whose word it is; so of the others.
+use Rattle.std.specs.Prelude.{◌≡◌, ◌≢◌, ℕ, suc, ◌+◌, ◌-◌, ◌*◌, ◌^◌, ◌<◌, ◌≤◌, ◌⊎◌, ◌==◌, ◌||◌, Bool, MatchBool, if◌then◌else◌, List, [], ◌∷◌, ◌++◌, length, slice_get, Option, Some, None, option_to_list}
+use mathlib.Core.List.{IsPrefix}
+use Rattle.atomic_table.specs.Table.{Me, Step}
+use Rattle.lease_core.specs.declared.lease.Ending.{Ending}
+use Rattle.lease_core.specs.declared.lease.Ending.TheVariants.{Running, GivenBack, TakenBack}
+use Rattle.lease_core.specs.declared.lease.Line.{Line}
+use Rattle.lease_core.specs.declared.word.Standing.TheVariants.{Released, Revoked}
+use Rattle.lease_core.specs.declared.word.Word.{Word}
+use Rattle.lease_core.specs.State.{last_or}
+use Rattle.lease_core.specs.Lines.{no_line, word_of, IsShown, raised, heir_named, standing_of}
+use Rattle.lease_core.specs.Word.{word_in}
+use Rattle.lease_words.specs.declared.item.Item.{Item}
+use Rattle.lease_words.specs.declared.view.Held.{Held}
+use Rattle.lease_words.specs.declared.view.Shape.{Shape}
+use Rattle.lease_words.specs.declared.view.EngineSession.{EngineSession}
+use Rattle.lease_words.specs.declared.view.EngineKnows.{EngineKnows}
+use Rattle.lease_words.specs.declared.view.LibrarySession.{LibrarySession}
+use Rattle.lease_words.specs.declared.view.LibraryKnows.{LibraryKnows}
+use Rattle.lease_words.specs.declared.view.View.{View}
+use Rattle.lease_words.specs.Layout.{session_at, lane_at, beating_at, lane_of, slot_of}
+use Rattle.lease_words.specs.Facts.{OthersTaken}
+use Rattle.lease_words.specs.Leases.{Each, Stands, OthersRest, AreLines, IsNotOlder, EndsLease, lease_in, held_lease, held_count, shows_lease, total}
+use Rattle.lease_words.specs.Views.{engine_session, with_engine_session, heard_of, with_heard, taken_of, library_session, with_library_session, granted_lines, last_library, pending, engine_view, library_view, first_library, other_libraries}
+use Rattle.lease_words.specs.Sees.{looked, granted, revoked, took, has_published, heard, taking_from, saw, saw_taken, saw_published, sent, lost_to, gave_back, has_beaten, sending_to}
+
+-- a seat: what it knows, and the slots that are out with it
+abbrev pub Seated : Type 0
+Seated = Me (Option Item) View
+
+-- what the engine's seat keeps of a session: the number of leases, and of the last one the library, the sends that were seen and how many of these weren't taken
+pub record EngineNumbers : Type 0 where
+  pub lease : ℕ
+  pub library : ℕ
+  pub count : ℕ
+  pub pending : ℕ
+
+abbrev pub engine_numbers : EngineSession → EngineNumbers
+engine_numbers es = record { lease = length es.lines; library = last_library es; count = (last_or no_line es.lines).sends; pending = pending es }
+
+-- the numbers behind a look that found this count
+abbrev pub numbers_looked : EngineNumbers → ℕ → EngineNumbers
+numbers_looked n count = record { lease = n.lease; library = n.library; count = count; pending = n.pending + (count - n.count) }
+
+-- what a library's seat keeps of a session: the word of the lease that it holds as a number, or 0, and how many items it sent
+pub record LibraryNumbers : Type 0 where
+  pub word : ℕ
+  pub committed : ℕ
+
+abbrev pub held_word : ℕ → List Held → ℕ
+held_word library leases = if held_lease leases == 0 then 0 else held_lease leases * 2 ^ 40 + library * 2 ^ 34 + held_count leases
+
+abbrev pub library_numbers : ℕ → LibrarySession → LibraryNumbers
+library_numbers library ls = record { word = held_word library ls.leases; committed = length ls.items }
+
+-- What the engine's lines tell of a library that was settled: its leases stand there with its own counts, other lines of it are at rest, each word
+-- that it knew is shown, and what was taken of it begins its items, whose number the lines have.
+pub record IsSettled (s : ℕ) (es : EngineSession) (k : LibraryKnows) : Type 0 where
+  pub stands : Each (Stands es.base es.lines k.number) (library_session k s).leases
+  pub others : OthersRest es.base es.lines k.number (library_session k s).leases
+  pub words : Each (IsShown es.lines) (library_session k s).words
+  pub taken : IsPrefix (taken_of es k.number) (library_session k s).items
+  pub all : length (library_session k s).items ≡ total k.number (granted_lines es.base es.lines)
+
+-- what a look tells
+pub record Looked (shape : Shape) (s : ℕ) (es : EngineSession) (w : Word) (ks : List LibraryKnows) : Type 0 where
+  pub is : word_of (raised es.lines w) ≡ w
+  pub later : Each (λ (seen : Word). IsNotOlder seen w) es.words
+  pub are_lines : AreLines es.base shape.libraries (raised es.lines w)
+  pub within : pending (looked es w) ≤ shape.depth
+  pub others : OthersTaken shape.libraries (looked es w)
+  pub settled : Each (IsSettled s (looked es w)) ks
+  pub more : (engine_numbers es).count ≤ w.count
+  pub numbers : engine_numbers (looked es w) ≡ numbers_looked (engine_numbers es) w.count
+
+abbrev pub LookOf : ℕ → Step (Option Item) → Seated → ℕ → Seated → Type 0
+LookOf s st m r m' =
+    let es = engine_session m.0.knows s in
+    let w = word_in r in
+    (m' ≡ (engine_view m.0.shape (with_engine_session m.0.knows s (looked es w)) m.0.libraries, [])) × Looked m.0.shape s es w m.0.libraries
+
+abbrev pub LookTells : Step (Option Item) → Seated → ℕ → Seated → Type 0
+LookTells st m r m' = LookOf (session_at st.word) st m r m'
+
+-- what taking a session back tells besides
+pub record TookBack (shape : Shape) (s : ℕ) (es : EngineSession) (w : Word) (ks : List LibraryKnows) : Type 0 where
+  pub look : Looked shape s es w ks
+  pub are_lines : AreLines es.base shape.libraries (revoked es w).lines
+  pub others : OthersTaken shape.libraries (revoked es w)
+  pub settled : Each (IsSettled s (revoked es w)) ks
+  pub numbers : engine_numbers (revoked es w) ≡ numbers_looked (engine_numbers es) w.count
+
+abbrev pub RevokeOf : ℕ → Step (Option Item) → Seated → ℕ → Seated → Type 0
+RevokeOf s st m r m' =
+    let es = engine_session m.0.knows s in
+    let w = word_in r in
+    (m' ≡ (engine_view m.0.shape (with_engine_session m.0.knows s (revoked es w)) m.0.libraries, [])) × TookBack m.0.shape s es w m.0.libraries
+
+abbrev pub RevokeTells : Step (Option Item) → Seated → ℕ → Seated → Type 0
+RevokeTells st m r m' = RevokeOf (session_at st.word) st m r m'
+
+-- what a grant tells
+pub record HasGranted (shape : Shape) (es : EngineSession) (library : ℕ) : Type 0 where
+  pub are_lines : AreLines es.base shape.libraries (granted es library).lines
+  pub numbers : engine_numbers (granted es library) ≡ record { lease = length es.lines + 1; library = library; count = 0; pending = 0 }
+
+abbrev pub GrantOf : ℕ → Step (Option Item) → Seated → ℕ → Seated → Type 0
+GrantOf s st m r m' =
+    let es = engine_session m.0.knows s in
+    let library = (word_in st.first).owner in
+    (m' ≡ (engine_view m.0.shape (with_engine_session m.0.knows s (granted es library)) m.0.libraries, [])) × HasGranted m.0.shape es library
+
+abbrev pub GrantTells : Step (Option Item) → Seated → ℕ → Seated → Type 0
+GrantTells st m r m' = GrantOf (session_at st.word) st m r m'
+
+-- an item that was taken
+pub record HasTaken (libraries s : ℕ) (es : EngineSession) (library r : ℕ) (item : Item) (ks : List LibraryKnows) : Type 0 where
+  pub from_one : 1 ≤ library
+  pub to_last : library ≤ libraries
+  pub count : r ≡ length (taken_of es library)
+  pub longer : length (taken_of (took es library (item ∷ [])) library) ≡ r + 1
+  pub few : r < 2 ^ 56
+  pub settled : Each (λ (k : LibraryKnows). IsPrefix (taken_of (took es library (item ∷ [])) k.number) (library_session k s).items) ks
+  pub numbers : engine_numbers (took es library (item ∷ [])) ≡ record { lease = (engine_numbers es).lease; library = (engine_numbers es).library; count = (engine_numbers es).count; pending = pending es - 1 }
+
+-- the load of a take, which takes the slot of the first item
+abbrev pub FetchOf : ℕ → ℕ → Step (Option Item) → Seated → ℕ → Seated → Type 0
+FetchOf s library st m r m' =
+    let es = engine_session m.0.knows s in
+    let libraries = m.0.shape.libraries in
+    (item : Item)
+    × (m' ≡ (engine_view m.0.shape (taking_from (with_engine_session m.0.knows s (took es library (item ∷ []))) (suc (lane_of libraries s library))) m.0.libraries, (slot_of libraries s library r, Some item) ∷ []))
+    × HasTaken libraries s es library r item m.0.libraries
+
+abbrev pub FetchTells : Step (Option Item) → Seated → ℕ → Seated → Type 0
+FetchTells st m r m' = FetchOf (session_at st.word) (lane_at st.word) st m r m'
+
+-- the store of a take, which gives it back
+abbrev pub VacateTells : Step (Option Item) → Seated → ℕ → Seated → Type 0
+VacateTells st m r m' = m' ≡ (engine_view m.0.shape (taking_from m.0.knows 0) m.0.libraries, [])
+
+abbrev pub PublishOf : ℕ → Step (Option Item) → Seated → ℕ → Seated → Type 0
+PublishOf s st m r m' =
+    m' ≡ (engine_view m.0.shape (with_engine_session m.0.knows s (has_published (engine_session m.0.knows s) st.first)) m.0.libraries, [])
+
+abbrev pub PublishTells : Step (Option Item) → Seated → ℕ → Seated → Type 0
+PublishTells st m r m' = PublishOf (session_at st.word) st m r m'
+
+abbrev pub ListenOf : ℕ → Step (Option Item) → Seated → ℕ → Seated → Type 0
+ListenOf library st m r m' =
+    let b = heard_of m.0.knows library in
+    (b.count ≤ r) × (m' ≡ (engine_view m.0.shape (with_heard m.0.knows library (heard b r)) m.0.libraries, []))
+
+abbrev pub ListenTells : Step (Option Item) → Seated → ℕ → Seated → Type 0
+ListenTells st m r m' = ListenOf (beating_at m.0.shape.sessions st.word) st m r m'
+
+-- what a library is told by a word
+pub record Saw (library : ℕ) (ls : LibrarySession) (r : ℕ) : Type 0 where
+  pub later : Each (λ (seen : Word). IsNotOlder seen (word_in r)) ls.words
+  pub numbers : library_numbers library (saw library ls (word_in r)) ≡ record { word = if shows_lease library (word_in r) then r else 0; committed = length ls.items }
+
+abbrev pub SeeOf : ℕ → Step (Option Item) → Seated → ℕ → Seated → Type 0
+SeeOf s st m r m' =
+    let k = first_library m.0.libraries in
+    let ls = library_session k s in
+    (m' ≡ (library_view m.0.shape (with_library_session k s (saw k.number ls (word_in r))), [])) × Saw k.number ls r
+
+abbrev pub SeeTells : Step (Option Item) → Seated → ℕ → Seated → Type 0
+SeeTells st m r m' = SeeOf (session_at st.word) st m r m'
+
+abbrev pub ArriveOf : ℕ → Step (Option Item) → Seated → ℕ → Seated → Type 0
+ArriveOf s st m r m' =
+    let k = first_library m.0.libraries in
+    let ls = library_session k s in
+    (ls.published ≤ r) × (m' ≡ (library_view m.0.shape (with_library_session k s (saw_published ls r)), []))
+
+abbrev pub ArriveTells : Step (Option Item) → Seated → ℕ → Seated → Type 0
+ArriveTells st m r m' = ArriveOf (session_at st.word) st m r m'
+
+abbrev pub BeatTells : Step (Option Item) → Seated → ℕ → Seated → Type 0
+BeatTells st m r m' = m' ≡ (library_view m.0.shape (has_beaten (first_library m.0.libraries) st.first), [])
+
+-- a lane with these counts takes no more, or the lease made all its sends
+abbrev pub is_refused : Shape → ℕ → ℕ → ℕ → Bool
+is_refused shape committed taken count = (committed == taken + shape.depth) || (count == shape.sends)
+
+-- what a library learns of its lane
+pub record SawTaken (shape : Shape) (ls : LibrarySession) (r : ℕ) : Type 0 where
+  pub later : ls.taken ≤ r
+  pub behind : r ≤ length ls.items
+  pub within : length ls.items ≤ r + shape.depth
+  pub few : length ls.items < 2 ^ 56
+  pub spent : held_count ls.leases ≤ shape.sends
+
+-- the load of a send, which takes the next slot unless the send is refused
+abbrev pub ClaimOf : ℕ → Step (Option Item) → Seated → ℕ → Seated → Type 0
+ClaimOf s st m r m' =
+    let k = first_library m.0.libraries in
+    let ls = library_session k s in
+    let after = with_library_session k s (saw_taken ls r) in
+    SawTaken m.0.shape ls r
+    × MatchBool (is_refused m.0.shape (length ls.items) r (held_count ls.leases))
+    (m' ≡ (library_view m.0.shape after, []))
+    (m' ≡ (library_view m.0.shape (sending_to after (suc s)), (slot_of m.0.shape.libraries s k.number (length ls.items), None) ∷ []))
+
+abbrev pub ClaimTells : Step (Option Item) → Seated → ℕ → Seated → Type 0
+ClaimTells st m r m' = ClaimOf (session_at st.word) st m r m'
+
+-- the item in the slot that was taken last
+abbrev pub carried_items : List (ℕ × Option Item) → List Item
+carried_items [] = []
+carried_items (x ∷ xs) = option_to_list x.1
+
+-- another word was found than the lease's
+pub record HasLost (library : ℕ) (ls : LibrarySession) (r : ℕ) : Type 0 where
+  pub ends : EndsLease (held_lease ls.leases) (held_count ls.leases) (word_in r)
+  pub later : Each (λ (seen : Word). IsNotOlder seen (word_in r)) ls.words
+  pub numbers : library_numbers library (lost_to ls (word_in r)) ≡ record { word = 0; committed = length ls.items }
+
+-- what a send tells that found the lease's word
+pub record HasSent (library : ℕ) (ls : LibrarySession) (items : List Item) (n : ℕ) : Type 0 where
+  pub numbers : library_numbers library (sent ls items (word_in n)) ≡ record { word = n; committed = length ls.items + 1 }
+
+-- the exchange of a send, which gives the slot back with its item where it finds the lease's word
+abbrev pub CommitOf : ℕ → Step (Option Item) → Seated → ℕ → Seated → Type 0
+CommitOf s st m r m' =
+    let k = first_library m.0.libraries in
+    let ls = library_session k s in
+    MatchBool (r == st.first)
+    ((m' ≡ (library_view m.0.shape (sending_to (with_library_session k s (sent ls (carried_items m.1) (word_in st.second))) 0), [])) × HasSent k.number ls (carried_items m.1) st.second)
+    ((m' ≡ (library_view m.0.shape (with_library_session k s (lost_to ls (word_in r))), m.1)) × HasLost k.number ls r)
+
+abbrev pub CommitTells : Step (Option Item) → Seated → ℕ → Seated → Type 0
+CommitTells st m r m' = CommitOf (session_at st.word) st m r m'
+
+-- the load by which a send that was refused gives the slot back
+abbrev pub HandBackTells : Step (Option Item) → Seated → ℕ → Seated → Type 0
+HandBackTells st m r m' = m' ≡ (library_view m.0.shape (sending_to (first_library m.0.libraries) 0), [])
+
+-- the exchange of a release
+abbrev pub ReleaseOf : ℕ → Step (Option Item) → Seated → ℕ → Seated → Type 0
+ReleaseOf s st m r m' =
+    let k = first_library m.0.libraries in
+    let ls = library_session k s in
+    let w = word_in st.second in
+    let after = gave_back ls (heir_named w.owner k.number) w in
+    MatchBool (r == st.first)
+    ((m' ≡ (library_view m.0.shape (with_library_session k s after), [])) × (held_count ls.leases < 2 ^ 32) × (library_numbers k.number after ≡ record { word = 0; committed = length ls.items }))
+    ((m' ≡ (library_view m.0.shape (with_library_session k s (lost_to ls (word_in r))), [])) × HasLost k.number ls r)
+
+abbrev pub ReleaseTells : Step (Option Item) → Seated → ℕ → Seated → Type 0
+ReleaseTells st m r m' = ReleaseOf (session_at st.word) st m r m'
+
+-- What was told at a meeting: each side is told of the words that the other knows, the library of what was taken of it and published, and the
+-- engine of the library's beats.
+abbrev pub engine_told : EngineSession → LibrarySession → EngineSession
+engine_told es ls = record { base = es.base; lines = es.lines; words = ls.words ++ es.words; looks = es.looks; taken = es.taken; published = es.published }
+
+abbrev pub library_told : ℕ → EngineSession → LibrarySession → LibrarySession
+library_told library es ls = record { leases = ls.leases; items = ls.items; words = ls.words ++ es.words; looks = ls.looks; taken = length (taken_of es library); takes = ls.takes; published = es.published; arrivals = ls.arrivals }
+
+abbrev pub engine_sessions_told : List EngineSession → List LibrarySession → List EngineSession
+engine_sessions_told [] ls = []
+engine_sessions_told (x ∷ xs) [] = []
+engine_sessions_told (x ∷ xs) (y ∷ ys) = engine_told x y ∷ engine_sessions_told xs ys
+
+abbrev pub library_sessions_told : ℕ → List EngineSession → List LibrarySession → List LibrarySession
+library_sessions_told library [] ls = []
+library_sessions_told library (x ∷ xs) [] = []
+library_sessions_told library (x ∷ xs) (y ∷ ys) = library_told library x y ∷ library_sessions_told library xs ys
+
+abbrev pub engine_met : EngineKnows → LibraryKnows → EngineKnows
+engine_met e k =
+    let told : EngineKnows = record { sessions = engine_sessions_told e.sessions k.sessions; beats = e.beats; taking = e.taking } in
+    with_heard told k.number (record { count = k.beats; loads = (heard_of e k.number).loads })
+
+abbrev pub library_met : EngineKnows → LibraryKnows → LibraryKnows
+library_met e k = record { number = k.number; sessions = library_sessions_told k.number e.sessions k.sessions; beats = k.beats; sending = k.sending }
+
+-- a word that names a lease of this library shows no more than the library and the engine have done
+pub record IsDone (base library : ℕ) (lines : List Line) (leases : List Held) (w : Word) : Type 0 where
+  pub lease : w.lease ≤ length lines
+  pub own : (l : Line) (h : Held) → base < w.lease → slice_get lines (w.lease - 1) ≡ Some l → l.library ≡ library → h ≡ lease_in w.lease leases
+      → (w.count ≤ h.count) × (w.standing ≡ Released → standing_of h.ending ≡ Released) × (w.standing ≡ Revoked → l.ending ≡ TakenBack)
+
+-- how a lease's line, as the engine has seen it, stands beside what its library did
+abbrev pub HasSeen : Ending → Held → ℕ → Type 0
+HasSeen Running h sends = (sends ≤ h.count) × (h.ending ≢ TakenBack)
+HasSeen (GivenBack heir) h sends = (sends ≡ h.count) × (h.ending ≡ GivenBack heir)
+HasSeen TakenBack h sends = (sends ≡ h.count) × ((h.ending ≡ Running) ⊎ (h.ending ≡ TakenBack))
+
+pub record IsSeen (base library : ℕ) (lines : List Line) (h : Held) : Type 0 where
+  pub above : base < h.lease
+  pub line : Line
+  pub at : slice_get lines (h.lease - 1) ≡ Some line
+  pub whose : line.library ≡ library
+  pub seen : HasSeen line.ending h line.sends
+
+-- what is known of a session when the engine and a library meet
+pub record HaveMet (depth library : ℕ) (es : EngineSession) (ls : LibrarySession) : Type 0 where
+  pub leases : Each (IsSeen es.base library es.lines) ls.leases
+  pub others : OthersRest es.base es.lines library ls.leases
+  pub engine_words : Each (IsDone es.base library es.lines ls.leases) es.words
+  pub library_words : Each (IsDone es.base library es.lines ls.leases) ls.words
+  pub begins : IsPrefix (taken_of es library) ls.items
+  pub within : length ls.items ≤ length (taken_of es library) + depth
+  pub taken : ls.taken ≤ length (taken_of es library)
+  pub published : ls.published ≤ es.published
+
+-- and of all that they know
+pub record Met (shape : Shape) (e : EngineKnows) (k : LibraryKnows) : Type 0 where
+  pub sessions : (s : ℕ) → s < shape.sessions → HaveMet shape.depth k.number (engine_session e s) (library_session k s)
+  pub beats : (heard_of e k.number).count ≤ k.beats
+
+abbrev pub MeetTells : Step (Option Item) → Seated → ℕ → Seated → Type 0
+MeetTells st m r m' =
+    let k = first_library m.0.libraries in
+    Met m.0.shape m.0.knows k × (m' ≡ (engine_view m.0.shape (engine_met m.0.knows k) (library_met m.0.knows k ∷ other_libraries m.0.libraries), []))
