@@ -23,3 +23,6 @@ pub use item::{Item, Lost, SendError, Sent};
 pub use laws::settled_lanes_are_taken;
 pub use leases::Leases;
 pub use library_seat::LibrarySeat;
+
+#[cfg(test)]
+mod tests;
