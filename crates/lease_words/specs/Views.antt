@@ -71,6 +71,19 @@ library_session k s = slice_index_or k.sessions s no_library_session
 abbrev pub with_library_session : LibraryKnows → ℕ → LibrarySession → LibraryKnows
 with_library_session k s x = record { number = k.number; sessions = slice_set k.sessions s x; beats = k.beats; sending = k.sending }
 
+-- what a seat knows of a session, and a seat that knows this of it and else the same
+abbrev pub engine_at : EngineView → ℕ → EngineSession
+engine_at v s = engine_session v.knows s
+
+abbrev pub with_engine_at : EngineView → ℕ → EngineSession → EngineView
+with_engine_at v s x = record { table = v.table; knows = with_engine_session v.knows s x; settled = v.settled }
+
+abbrev pub library_at : LibraryView → ℕ → LibrarySession
+library_at v s = library_session v.knows s
+
+abbrev pub with_library_at : LibraryView → ℕ → LibrarySession → LibraryView
+with_library_at v s x = record { table = v.table; knows = with_library_session v.knows s x }
+
 -- the library whose lease is the last
 abbrev pub last_library : EngineSession → ℕ
 last_library es = (last_or no_line es.lines).library

@@ -1,10 +1,10 @@
 //! What the engine does at a table.
-ghost use Rattle.std.specs.Prelude.{◌≡◌, ◌≢◌, ◌+◌, ◌-◌, ◌^◌, ◌<◌, ◌≤◌, false, true, length, IfSome, IfNone, IsNone, IsSome, OnSome, ◌↔◌, [], ◌∷◌};
+ghost use Rattle.std.specs.Prelude.{◌≡◌, ◌+◌, ◌<◌, ◌≤◌, ◌↔◌, false, true, [], ◌∷◌, length, IsNone, IfNone, IfSome};
 ghost use mathlib.Core.List.{IsPrefix};
 ghost use Rattle.lease_core.specs.Lines.{word_of, raised};
 ghost use Rattle.lease_words.specs.Facts.{OthersTaken};
 ghost use Rattle.lease_words.specs.Leases.{Each, AreLines, IsNotOlder, is_running};
-ghost use Rattle.lease_words.specs.Views.{engine_session, with_engine_session, heard_of, with_heard, pending, last_library, taken_of, library_session};
+ghost use Rattle.lease_words.specs.Views.{engine_at, with_engine_at, heard_of, with_heard, pending, last_library, taken_of, library_session};
 ghost use Rattle.lease_words.specs.Sees.{looked, granted, revoked, took, has_published, heard};
 ghost use Rattle.lease_words.specs.Tells.{IsSettled};
 
@@ -26,18 +26,18 @@ impl Leases {
         requires table { seat.old.table ≡ self.now }
         requires session { s < self.now.shape.sessions }
 
-        ensures seat { seat.new ≡ record seat.old { knows = with_engine_session seat.old.knows s (looked (engine_session seat.old.knows s) result) } }
-        ensures session { engine_session seat.new.knows s ≡ looked (engine_session seat.old.knows s) result }
-        ensures word { word_of (raised (engine_session seat.old.knows s).lines result) ≡ result }
+        ensures seat { seat.new ≡ with_engine_at seat.old s (looked (engine_at seat.old s) result) }
+        ensures session { engine_at seat.new s ≡ looked (engine_at seat.old s) result }
+        ensures word { word_of (raised (engine_at seat.old s).lines result) ≡ result }
 
         // No word is older than one that was seen or told of.
-        ensures later { Each (λ seen. IsNotOlder seen result) (engine_session seat.old.knows s).words }
-        ensures lines { AreLines (engine_session seat.old.knows s).base self.now.shape.libraries (raised (engine_session seat.old.knows s).lines result) }
+        ensures later { Each (λ seen. IsNotOlder seen result) (engine_at seat.old s).words }
+        ensures lines { AreLines (engine_at seat.old s).base self.now.shape.libraries (raised (engine_at seat.old s).lines result) }
 
         // At most as many sends as the lane is deep weren't taken, all of them the last lease's.
-        ensures within { pending (looked (engine_session seat.old.knows s) result) ≤ self.now.shape.depth }
-        ensures others { OthersTaken self.now.shape.libraries (looked (engine_session seat.old.knows s) result) }
-        ensures settled { Each (IsSettled s (looked (engine_session seat.old.knows s) result)) seat.old.settled }
+        ensures within { pending (looked (engine_at seat.old s) result) ≤ self.now.shape.depth }
+        ensures others { OthersTaken self.now.shape.libraries (looked (engine_at seat.old s) result) }
+        ensures settled { Each (IsSettled s (looked (engine_at seat.old s) result)) seat.old.settled }
     {
         let n = self
             .table
@@ -53,16 +53,16 @@ impl Leases {
     pub fn revoke(&self, seat: &mut EngineSeat, s: u16) -> Word
         requires table { seat.old.table ≡ self.now }
         requires session { s < self.now.shape.sessions }
-        requires active { is_running (engine_session seat.old.knows s).lines ≡ true }
+        requires active { is_running (engine_at seat.old s).lines ≡ true }
 
-        ensures seat { seat.new ≡ record seat.old { knows = with_engine_session seat.old.knows s (revoked (engine_session seat.old.knows s) result) } }
-        ensures session { engine_session seat.new.knows s ≡ revoked (engine_session seat.old.knows s) result }
-        ensures word { word_of (raised (engine_session seat.old.knows s).lines result) ≡ result }
-        ensures later { Each (λ seen. IsNotOlder seen result) (engine_session seat.old.knows s).words }
-        ensures lines { AreLines (engine_session seat.old.knows s).base self.now.shape.libraries (revoked (engine_session seat.old.knows s) result).lines }
-        ensures within { pending (revoked (engine_session seat.old.knows s) result) ≤ self.now.shape.depth }
-        ensures others { OthersTaken self.now.shape.libraries (revoked (engine_session seat.old.knows s) result) }
-        ensures settled { Each (IsSettled s (revoked (engine_session seat.old.knows s) result)) seat.old.settled }
+        ensures seat { seat.new ≡ with_engine_at seat.old s (revoked (engine_at seat.old s) result) }
+        ensures session { engine_at seat.new s ≡ revoked (engine_at seat.old s) result }
+        ensures word { word_of (raised (engine_at seat.old s).lines result) ≡ result }
+        ensures later { Each (λ seen. IsNotOlder seen result) (engine_at seat.old s).words }
+        ensures lines { AreLines (engine_at seat.old s).base self.now.shape.libraries (revoked (engine_at seat.old s) result).lines }
+        ensures within { pending (revoked (engine_at seat.old s) result) ≤ self.now.shape.depth }
+        ensures others { OthersTaken self.now.shape.libraries (revoked (engine_at seat.old s) result) }
+        ensures settled { Each (IsSettled s (revoked (engine_at seat.old s) result)) seat.old.settled }
     {
         let n = self
             .table
@@ -81,14 +81,14 @@ impl Leases {
         requires table { seat.old.table ≡ self.now }
         requires session { s < self.now.shape.sessions }
         requires library { (1 ≤ library) × (library ≤ self.now.shape.libraries) }
-        requires room { length (engine_session seat.old.knows s).lines < 16777215 }
-        requires ended { is_running (engine_session seat.old.knows s).lines ≡ false }
-        requires taken { pending (engine_session seat.old.knows s) ≡ 0 }
+        requires room { length (engine_at seat.old s).lines < 16777215 }
+        requires ended { is_running (engine_at seat.old s).lines ≡ false }
+        requires taken { pending (engine_at seat.old s) ≡ 0 }
 
-        ensures seat { seat.new ≡ record seat.old { knows = with_engine_session seat.old.knows s (granted (engine_session seat.old.knows s) library) } }
-        ensures session { engine_session seat.new.knows s ≡ granted (engine_session seat.old.knows s) library }
-        ensures lease { result ≡ length (engine_session seat.old.knows s).lines + 1 }
-        ensures lines { AreLines (engine_session seat.old.knows s).base self.now.shape.libraries (granted (engine_session seat.old.knows s) library).lines }
+        ensures seat { seat.new ≡ with_engine_at seat.old s (granted (engine_at seat.old s) library) }
+        ensures session { engine_at seat.new s ≡ granted (engine_at seat.old s) library }
+        ensures lease { result ≡ length (engine_at seat.old s).lines + 1 }
+        ensures lines { AreLines (engine_at seat.old s).base self.now.shape.libraries (granted (engine_at seat.old s) library).lines }
     {
         let shared = &self.table.shared;
         let lease = seat.rows[s as usize].lease + 1;
@@ -114,13 +114,13 @@ impl Leases {
         requires table { seat.old.table ≡ self.now }
         requires session { s < self.now.shape.sessions }
 
-        ensures none { IsNone result ↔ (pending (engine_session seat.old.knows s) ≡ 0) }
+        ensures none { IsNone result ↔ (pending (engine_at seat.old s) ≡ 0) }
         ensures same { IfNone result (seat.new ≡ seat.old) }
-        ensures item { IfSome result (λ item. seat.new ≡ record seat.old { knows = with_engine_session seat.old.knows s (took (engine_session seat.old.knows s) (last_library (engine_session seat.old.knows s)) (item ∷ [])) }) }
-        ensures session { IfSome result (λ item. engine_session seat.new.knows s ≡ took (engine_session seat.old.knows s) (last_library (engine_session seat.old.knows s)) (item ∷ [])) }
+        ensures item { IfSome result (λ item. seat.new ≡ with_engine_at seat.old s (took (engine_at seat.old s) (last_library (engine_at seat.old s)) (item ∷ []))) }
+        ensures session { IfSome result (λ item. engine_at seat.new s ≡ took (engine_at seat.old s) (last_library (engine_at seat.old s)) (item ∷ [])) }
 
         // Of each library that was settled, what was taken begins what it sent.
-        ensures settled { IfSome result (λ item. Each (λ k. IsPrefix (taken_of (took (engine_session seat.old.knows s) (last_library (engine_session seat.old.knows s)) (item ∷ [])) k.number) (library_session k s).items) seat.old.settled) }
+        ensures settled { IfSome result (λ item. Each (λ k. IsPrefix (taken_of (took (engine_at seat.old s) (last_library (engine_at seat.old s)) (item ∷ [])) k.number) (library_session k s).items) seat.old.settled) }
     {
         let row = seat.rows[s as usize];
         if row.pending == 0 {
@@ -140,9 +140,9 @@ impl Leases {
     pub fn publish(&self, seat: &mut EngineSeat, s: u16, count: u64)
         requires table { seat.old.table ≡ self.now }
         requires session { s < self.now.shape.sessions }
-        requires more { (engine_session seat.old.knows s).published ≤ count }
-        ensures seat { seat.new ≡ record seat.old { knows = with_engine_session seat.old.knows s (has_published (engine_session seat.old.knows s) count) } }
-        ensures session { engine_session seat.new.knows s ≡ has_published (engine_session seat.old.knows s) count }
+        requires more { (engine_at seat.old s).published ≤ count }
+        ensures seat { seat.new ≡ with_engine_at seat.old s (has_published (engine_at seat.old s) count) }
+        ensures session { engine_at seat.new s ≡ has_published (engine_at seat.old s) count }
     {
         self.table
             .shared

@@ -1,9 +1,9 @@
 //! What a library does at a table.
-ghost use Rattle.std.specs.Prelude.{◌≡◌, ◌+◌, ◌^◌, ◌<◌, ◌≤◌, ◌≢◌, length, if◌then◌else◌, OnOk, IfOk, IfErr};
+ghost use Rattle.std.specs.Prelude.{◌≡◌, ◌≢◌, ◌<◌, ◌≤◌, if◌then◌else◌, OnOk, IfOk, IfErr};
 ghost use Rattle.lease_core.specs.Lines.{opening_word, heir_named};
-ghost use Rattle.lease_words.specs.Leases.{Each, IsNotOlder, held_lease, held_count, EndsLease, shows_lease};
-ghost use Rattle.lease_words.specs.Views.{library_session, with_library_session};
-ghost use Rattle.lease_words.specs.Sees.{saw, saw_taken, saw_published, sent, lost_to, gave_back, has_beaten};
+ghost use Rattle.lease_words.specs.Leases.{Each, IsNotOlder, held_lease, held_count, shows_lease};
+ghost use Rattle.lease_words.specs.Views.{library_at, with_library_at};
+ghost use Rattle.lease_words.specs.Sees.{saw, saw_published, lost_to, gave_back, has_beaten};
 ghost use Rattle.lease_words.specs.Answers.{released_word, next_beat, IsLoss};
 
 use crate::item::Lost;
@@ -31,12 +31,12 @@ impl Leases {
     pub fn see(&self, seat: &mut LibrarySeat, s: u16) -> Word
         requires table { seat.old.table ≡ self.now }
 
-        ensures seat { s < self.now.shape.sessions → seat.new ≡ record seat.old { knows = with_library_session seat.old.knows s (saw seat.old.knows.number (library_session seat.old.knows s) result) } }
-        ensures session { s < self.now.shape.sessions → library_session seat.new.knows s ≡ saw seat.old.knows.number (library_session seat.old.knows s) result }
-        ensures held { s < self.now.shape.sessions → held_lease (library_session seat.new.knows s).leases ≡ (if shows_lease seat.old.knows.number result then result.lease else 0) }
+        ensures seat { s < self.now.shape.sessions → seat.new ≡ with_library_at seat.old s (saw seat.old.knows.number (library_at seat.old s) result) }
+        ensures session { s < self.now.shape.sessions → library_at seat.new s ≡ saw seat.old.knows.number (library_at seat.old s) result }
+        ensures held { s < self.now.shape.sessions → held_lease (library_at seat.new s).leases ≡ (if shows_lease seat.old.knows.number result then result.lease else 0) }
 
         // No word is older than one that was seen or told of.
-        ensures later { s < self.now.shape.sessions → Each (λ seen. IsNotOlder seen result) (library_session seat.old.knows s).words }
+        ensures later { s < self.now.shape.sessions → Each (λ seen. IsNotOlder seen result) (library_at seat.old s).words }
         ensures elsewhere { self.now.shape.sessions ≤ s → (seat.new ≡ seat.old) × (result ≡ opening_word) }
     {
         if s as usize >= self.sessions {
@@ -53,9 +53,9 @@ impl Leases {
     /// doesn't have it is 0, with no load.
     pub fn arrived(&self, seat: &mut LibrarySeat, s: u16) -> u64
         requires table { seat.old.table ≡ self.now }
-        ensures seat { s < self.now.shape.sessions → seat.new ≡ record seat.old { knows = with_library_session seat.old.knows s (saw_published (library_session seat.old.knows s) result) } }
-        ensures session { s < self.now.shape.sessions → library_session seat.new.knows s ≡ saw_published (library_session seat.old.knows s) result }
-        ensures later { s < self.now.shape.sessions → (library_session seat.old.knows s).published ≤ result }
+        ensures seat { s < self.now.shape.sessions → seat.new ≡ with_library_at seat.old s (saw_published (library_at seat.old s) result) }
+        ensures session { s < self.now.shape.sessions → library_at seat.new s ≡ saw_published (library_at seat.old s) result }
+        ensures later { s < self.now.shape.sessions → (library_at seat.old s).published ≤ result }
         ensures elsewhere { self.now.shape.sessions ≤ s → (seat.new ≡ seat.old) × (result ≡ 0) }
     {
         if s as usize >= self.sessions {
@@ -85,12 +85,12 @@ impl Leases {
     pub fn release(&self, seat: &mut LibrarySeat, s: u16, lease: u32) -> Result<u32, Lost>
         requires table { seat.old.table ≡ self.now }
         requires session { s < self.now.shape.sessions }
-        requires held { (0 < lease) × (held_lease (library_session seat.old.knows s).leases ≡ lease) }
+        requires held { (0 < lease) × (held_lease (library_at seat.old s).leases ≡ lease) }
 
-        ensures count { IfOk result (λ n. n ≡ held_count (library_session seat.old.knows s).leases) }
-        ensures released { OnOk result (seat.new ≡ record seat.old { knows = with_library_session seat.old.knows s (gave_back (library_session seat.old.knows s) 0 (released_word lease seat.old.knows.number (held_count (library_session seat.old.knows s).leases))) }) }
-        ensures lost { IfErr result (λ e. IsLoss (library_session seat.old.knows s) e.seen) }
-        ensures forgotten { IfErr result (λ e. seat.new ≡ record seat.old { knows = with_library_session seat.old.knows s (lost_to (library_session seat.old.knows s) e.seen) }) }
+        ensures count { IfOk result (λ n. n ≡ held_count (library_at seat.old s).leases) }
+        ensures released { OnOk result (seat.new ≡ with_library_at seat.old s (gave_back (library_at seat.old s) 0 (released_word lease seat.old.knows.number (held_count (library_at seat.old s).leases)))) }
+        ensures lost { IfErr result (λ e. IsLoss (library_at seat.old s) e.seen) }
+        ensures forgotten { IfErr result (λ e. seat.new ≡ with_library_at seat.old s (lost_to (library_at seat.old s) e.seen)) }
     {
         let owner = seat.number;
         self.give_back(seat, s, owner)
@@ -108,13 +108,13 @@ impl Leases {
     ) -> Result<u32, Lost>
         requires table { seat.old.table ≡ self.now }
         requires session { s < self.now.shape.sessions }
-        requires held { (0 < lease) × (held_lease (library_session seat.old.knows s).leases ≡ lease) }
+        requires held { (0 < lease) × (held_lease (library_at seat.old s).leases ≡ lease) }
         requires heir { (1 ≤ heir) × (heir ≤ self.now.shape.libraries) × (heir ≢ seat.old.knows.number) }
 
-        ensures count { IfOk result (λ n. n ≡ held_count (library_session seat.old.knows s).leases) }
-        ensures released { OnOk result (seat.new ≡ record seat.old { knows = with_library_session seat.old.knows s (gave_back (library_session seat.old.knows s) heir (released_word lease heir (held_count (library_session seat.old.knows s).leases))) }) }
-        ensures lost { IfErr result (λ e. IsLoss (library_session seat.old.knows s) e.seen) }
-        ensures forgotten { IfErr result (λ e. seat.new ≡ record seat.old { knows = with_library_session seat.old.knows s (lost_to (library_session seat.old.knows s) e.seen) }) }
+        ensures count { IfOk result (λ n. n ≡ held_count (library_at seat.old s).leases) }
+        ensures released { OnOk result (seat.new ≡ with_library_at seat.old s (gave_back (library_at seat.old s) heir (released_word lease heir (held_count (library_at seat.old s).leases)))) }
+        ensures lost { IfErr result (λ e. IsLoss (library_at seat.old s) e.seen) }
+        ensures forgotten { IfErr result (λ e. seat.new ≡ with_library_at seat.old s (lost_to (library_at seat.old s) e.seen)) }
     {
         self.give_back(seat, s, heir)
     }
@@ -124,13 +124,13 @@ impl Leases {
     fn give_back(&self, seat: &mut LibrarySeat, s: u16, owner: u8) -> Result<u32, Lost>
         requires table { seat.old.table ≡ self.now }
         requires session { s < self.now.shape.sessions }
-        requires held { 0 < held_lease (library_session seat.old.knows s).leases }
+        requires held { 0 < held_lease (library_at seat.old s).leases }
         requires owner { (1 ≤ owner) × (owner ≤ self.now.shape.libraries) }
 
-        ensures count { IfOk result (λ n. n ≡ held_count (library_session seat.old.knows s).leases) }
-        ensures released { OnOk result (seat.new ≡ record seat.old { knows = with_library_session seat.old.knows s (gave_back (library_session seat.old.knows s) (heir_named owner seat.old.knows.number) (released_word (held_lease (library_session seat.old.knows s).leases) owner (held_count (library_session seat.old.knows s).leases))) }) }
-        ensures lost { IfErr result (λ e. IsLoss (library_session seat.old.knows s) e.seen) }
-        ensures forgotten { IfErr result (λ e. seat.new ≡ record seat.old { knows = with_library_session seat.old.knows s (lost_to (library_session seat.old.knows s) e.seen) }) }
+        ensures count { IfOk result (λ n. n ≡ held_count (library_at seat.old s).leases) }
+        ensures released { OnOk result (seat.new ≡ with_library_at seat.old s (gave_back (library_at seat.old s) (heir_named owner seat.old.knows.number) (released_word (held_lease (library_at seat.old s).leases) owner (held_count (library_at seat.old s).leases)))) }
+        ensures lost { IfErr result (λ e. IsLoss (library_at seat.old s) e.seen) }
+        ensures forgotten { IfErr result (λ e. seat.new ≡ with_library_at seat.old s (lost_to (library_at seat.old s) e.seen)) }
     {
         let shared = &self.table.shared;
         let word = seat.rows[s as usize].word;

@@ -1,7 +1,7 @@
 //! How a library sends.
 ghost use Rattle.std.specs.Prelude.{◌≡◌, ◌+◌, ◌^◌, ◌<◌, ◌≤◌, ◌≢◌, length, OnOk, IfOk, IfErr, [], ◌∷◌};
 ghost use Rattle.lease_words.specs.Leases.{held_lease, held_count};
-ghost use Rattle.lease_words.specs.Views.{library_session, with_library_session};
+ghost use Rattle.lease_words.specs.Views.{library_at, with_library_at};
 ghost use Rattle.lease_words.specs.Sees.{saw_taken, sent};
 ghost use Rattle.lease_words.specs.Answers.{active_word, HasLoaded, IsRefusal, IsOffering, HasOffered, HasFailed};
 
@@ -29,17 +29,17 @@ impl Leases {
     ) -> Result<Sent, (SendError, Item)>
         requires table { seat.old.table ≡ self.now }
         requires session { s < self.now.shape.sessions }
-        requires held { (0 < item.lease) × (held_lease (library_session seat.old.knows s).leases ≡ item.lease) }
+        requires held { (0 < item.lease) × (held_lease (library_at seat.old s).leases ≡ item.lease) }
 
         // The taken count of the lane is loaded, and no other session changes.
-        ensures loaded { HasLoaded self.now.shape.depth (library_session seat.old.knows s) (library_session seat.new.knows s).taken }
-        ensures others { seat.new ≡ record seat.old { knows = with_library_session seat.old.knows s (library_session seat.new.knows s) } }
+        ensures loaded { HasLoaded self.now.shape.depth (library_at seat.old s) (library_at seat.new s).taken }
+        ensures others { seat.new ≡ with_library_at seat.old s (library_at seat.new s) }
 
-        ensures sent { IfOk result (λ r. (r.lease ≡ item.lease) × (r.ordinal ≡ held_count (library_session seat.old.knows s).leases + 1)) }
-        ensures committed { OnOk result (library_session seat.new.knows s ≡ sent (saw_taken (library_session seat.old.knows s) (library_session seat.new.knows s).taken) (item ∷ []) (active_word item.lease seat.old.knows.number (held_count (library_session seat.old.knows s).leases + 1))) }
-        ensures room { OnOk result (length (library_session seat.old.knows s).items ≢ (library_session seat.new.knows s).taken + self.now.shape.depth) }
-        ensures left { OnOk result (held_count (library_session seat.old.knows s).leases ≢ self.now.shape.sends) }
-        ensures refused { IfErr result (λ e. IsRefusal self.now.shape (library_session seat.old.knows s) (library_session seat.new.knows s) (library_session seat.new.knows s).taken e.0) }
+        ensures sent { IfOk result (λ r. (r.lease ≡ item.lease) × (r.ordinal ≡ held_count (library_at seat.old s).leases + 1)) }
+        ensures committed { OnOk result (library_at seat.new s ≡ sent (saw_taken (library_at seat.old s) (library_at seat.new s).taken) (item ∷ []) (active_word item.lease seat.old.knows.number (held_count (library_at seat.old s).leases + 1))) }
+        ensures room { OnOk result (length (library_at seat.old s).items ≢ (library_at seat.new s).taken + self.now.shape.depth) }
+        ensures left { OnOk result (held_count (library_at seat.old s).leases ≢ self.now.shape.sends) }
+        ensures refused { IfErr result (λ e. IsRefusal self.now.shape (library_at seat.old s) (library_at seat.new s) (library_at seat.new s).taken e.0) }
         ensures back { IfErr result (λ e. e.1 ≡ item) }
     {
         let LibraryRow { word, committed } = seat.rows[s as usize];

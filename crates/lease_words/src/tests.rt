@@ -1,7 +1,7 @@
 //! Calls of an engine and a library in turn, and what they answer.
 ghost use Rattle.std.specs.Prelude.{◌≡◌, ◌<◌, ◌≤◌, true, length, IfOk, IfSome, OnOk};
 ghost use Rattle.lease_words.specs.Leases.{is_running, held_lease};
-ghost use Rattle.lease_words.specs.Views.{engine_session, library_session};
+ghost use Rattle.lease_words.specs.Views.{engine_at, library_at};
 
 use crate::{EngineSeat, Item, Leases, LibrarySeat, Lost, SendError, Sent};
 use fix_fields::check_body;
@@ -26,7 +26,7 @@ fn opened(alloc: Global, depth: u8, sends: u32) -> Result<(Leases, EngineSeat, L
     ensures engine_rows { IfOk result (λ r. 0 < length r.1.knows.sessions) }
     ensures library_rows { IfOk result (λ r. 0 < length r.2.knows.sessions) }
     ensures number { IfOk result (λ r. r.2.knows.number ≡ 1) }
-    ensures published { IfOk result (λ r. (engine_session r.1.knows 0).published ≡ 0) }
+    ensures published { IfOk result (λ r. (engine_at r.1 0).published ≡ 0) }
 {
     let (leases, engine, seats) = Leases::new(alloc, 1, 2, depth, sends)?;
     let first = seats.into_iter().next().ok_or("a seat")?;
@@ -39,8 +39,8 @@ fn is_active(leases: &Leases, engine: &mut EngineSeat, s: u16) -> (Word, bool)
     requires session { (s < leases.now.shape.sessions) × (s < length engine.old.knows.sessions) }
     ensures table { engine.new.table ≡ engine.old.table }
     ensures rows { length engine.new.knows.sessions ≡ length engine.old.knows.sessions }
-    ensures active { is_running (engine_session engine.new.knows s).lines ≡ result.1 }
-    ensures leases { length (engine_session engine.new.knows s).lines ≡ result.0.lease }
+    ensures active { is_running (engine_at engine.new s).lines ≡ result.1 }
+    ensures leases { length (engine_at engine.new s).lines ≡ result.0.lease }
 {
     let word = leases.look(engine, s);
     let active = word.lease > 0 && matches!(word.standing, Standing::Active);
@@ -54,7 +54,7 @@ fn grant(leases: &Leases, engine: &mut EngineSeat) -> Option<u32>
     requires libraries { leases.now.shape.libraries ≡ 2 }
     ensures table { engine.new.table ≡ engine.old.table }
     ensures rows { length engine.new.knows.sessions ≡ length engine.old.knows.sessions }
-    ensures active { IfSome result (λ n. is_running (engine_session engine.new.knows 0).lines ≡ true) }
+    ensures active { IfSome result (λ n. is_running (engine_at engine.new 0).lines ≡ true) }
 {
     let (word, active) = is_active(leases, engine, 0);
     if active || word.lease >= 16_777_215 || leases.take(engine, 0).is_some() {
@@ -70,7 +70,7 @@ fn hold(leases: &Leases, seat: &mut LibrarySeat, s: u16) -> Option<u32>
     ensures table { seat.new.table ≡ seat.old.table }
     ensures rows { length seat.new.knows.sessions ≡ length seat.old.knows.sessions }
     ensures number { seat.new.knows.number ≡ seat.old.knows.number }
-    ensures held { IfSome result (λ n. (0 < n) × (held_lease (library_session seat.new.knows s).leases ≡ n)) }
+    ensures held { IfSome result (λ n. (0 < n) × (held_lease (library_at seat.new s).leases ≡ n)) }
 {
     let number = number_of(seat);
     let word = leases.see(seat, s);
@@ -109,7 +109,7 @@ fn send_by(
 ) -> Result<Result<Sent, SendError>, Fail>
     requires table { seat.old.table ≡ leases.now }
     requires session { (0 < leases.now.shape.sessions) × (0 < length seat.old.knows.sessions) }
-    requires held { (0 < lease) × (held_lease (library_session seat.old.knows 0).leases ≡ lease) }
+    requires held { (0 < lease) × (held_lease (library_at seat.old 0).leases ≡ lease) }
     ensures table { seat.new.table ≡ seat.old.table }
     ensures rows { length seat.new.knows.sessions ≡ length seat.old.knows.sessions }
 {

@@ -2,7 +2,7 @@
 //! and take at random.
 ghost use Rattle.std.specs.Prelude.{◌≡◌, ◌<◌, ◌≤◌, true, length, IfOk, IfSome, IsSome, OnOk};
 ghost use Rattle.lease_words.specs.Leases.{is_running, held_lease};
-ghost use Rattle.lease_words.specs.Views.{engine_session, library_session, pending};
+ghost use Rattle.lease_words.specs.Views.{engine_at, library_at, pending};
 
 use super::{hold, is_active, item, number_of};
 use crate::{EngineSeat, Item, Leases, LibrarySeat};
@@ -143,8 +143,8 @@ fn drain(
     requires session { (s < leases.now.shape.sessions) × (s < length engine.old.knows.sessions) × (s < 3) }
     ensures table { engine.new.table ≡ engine.old.table }
     ensures rows { length engine.new.knows.sessions ≡ length engine.old.knows.sessions }
-    ensures lines { (engine_session engine.new.knows s).lines ≡ (engine_session engine.old.knows s).lines }
-    ensures taken { IsSome result → pending (engine_session engine.new.knows s) ≡ 0 }
+    ensures lines { (engine_at engine.new s).lines ≡ (engine_at engine.old s).lines }
+    ensures taken { IsSome result → pending (engine_at engine.new s) ≡ 0 }
 {
     for _ in 0..17u32 {
         let Some(item) = leases.take(engine, s) else {
@@ -225,7 +225,7 @@ fn send_some(
 ) -> Option<()>
     requires table { seat.old.table ≡ leases.now }
     requires session { (s < leases.now.shape.sessions) × (s < length seat.old.knows.sessions) }
-    requires held { (0 < lease) × (held_lease (library_session seat.old.knows s).leases ≡ lease) }
+    requires held { (0 < lease) × (held_lease (library_at seat.old s).leases ≡ lease) }
     ensures table { seat.new.table ≡ seat.old.table }
     ensures rows { length seat.new.knows.sessions ≡ length seat.old.knows.sessions }
 {
