@@ -1,5 +1,5 @@
 //! Calls of an engine and a library in turn, and what they answer.
-ghost use Rattle.std.specs.Prelude.{◌≡◌, ◌<◌, ◌≤◌, true, length, IfOk, IfSome, OnOk};
+ghost use Rattle.std.specs.Prelude.{◌≡◌, ◌<◌, ◌≤◌, true, length, IfOk, IfSome};
 ghost use Rattle.lease_words.specs.Leases.{is_running, held_lease};
 ghost use Rattle.lease_words.specs.Views.{engine_at, library_at};
 
@@ -23,8 +23,6 @@ fn opened(alloc: Global, depth: u8, sends: u32) -> Result<(Leases, EngineSeat, L
     ensures tables { IfOk result (λ r. (r.1.table ≡ r.0) × (r.2.table ≡ r.0)) }
     ensures session { IfOk result (λ r. 0 < r.0.shape.sessions) }
     ensures libraries { IfOk result (λ r. r.0.shape.libraries ≡ 2) }
-    ensures engine_rows { IfOk result (λ r. 0 < length r.1.knows.sessions) }
-    ensures library_rows { IfOk result (λ r. 0 < length r.2.knows.sessions) }
     ensures number { IfOk result (λ r. r.2.knows.number ≡ 1) }
     ensures published { IfOk result (λ r. (engine_at r.1 0).published ≡ 0) }
 {
@@ -36,9 +34,8 @@ fn opened(alloc: Global, depth: u8, sends: u32) -> Result<(Leases, EngineSeat, L
 // Looks, and says whether a lease is active.
 fn is_active(leases: &Leases, engine: &mut EngineSeat, s: u16) -> (Word, bool)
     requires table { engine.old.table ≡ leases.now }
-    requires session { (s < leases.now.shape.sessions) × (s < length engine.old.knows.sessions) }
+    requires session { s < leases.now.shape.sessions }
     ensures table { engine.new.table ≡ engine.old.table }
-    ensures rows { length engine.new.knows.sessions ≡ length engine.old.knows.sessions }
     ensures active { is_running (engine_at engine.new s).lines ≡ result.1 }
     ensures leases { length (engine_at engine.new s).lines ≡ result.0.lease }
 {
@@ -50,10 +47,9 @@ fn is_active(leases: &Leases, engine: &mut EngineSeat, s: u16) -> (Word, bool)
 // Grants session 0 to library 1 where no lease is active and all is taken that a look shows.
 fn grant(leases: &Leases, engine: &mut EngineSeat) -> Option<u32>
     requires table { engine.old.table ≡ leases.now }
-    requires session { (0 < leases.now.shape.sessions) × (0 < length engine.old.knows.sessions) }
+    requires session { 0 < leases.now.shape.sessions }
     requires libraries { leases.now.shape.libraries ≡ 2 }
     ensures table { engine.new.table ≡ engine.old.table }
-    ensures rows { length engine.new.knows.sessions ≡ length engine.old.knows.sessions }
     ensures active { IfSome result (λ n. is_running (engine_at engine.new 0).lines ≡ true) }
 {
     let (word, active) = is_active(leases, engine, 0);
@@ -66,9 +62,8 @@ fn grant(leases: &Leases, engine: &mut EngineSeat) -> Option<u32>
 // The lease that a look shows to be held.
 fn hold(leases: &Leases, seat: &mut LibrarySeat, s: u16) -> Option<u32>
     requires table { seat.old.table ≡ leases.now }
-    requires session { (s < leases.now.shape.sessions) × (s < length seat.old.knows.sessions) }
+    requires session { s < leases.now.shape.sessions }
     ensures table { seat.new.table ≡ seat.old.table }
-    ensures rows { length seat.new.knows.sessions ≡ length seat.old.knows.sessions }
     ensures number { seat.new.knows.number ≡ seat.old.knows.number }
     ensures held { IfSome result (λ n. (0 < n) × (held_lease (library_at seat.new s).leases ≡ n)) }
 {
@@ -108,10 +103,9 @@ fn send_by(
     body: &[u8],
 ) -> Result<Result<Sent, SendError>, Fail>
     requires table { seat.old.table ≡ leases.now }
-    requires session { (0 < leases.now.shape.sessions) × (0 < length seat.old.knows.sessions) }
+    requires session { 0 < leases.now.shape.sessions }
     requires held { (0 < lease) × (held_lease (library_at seat.old 0).leases ≡ lease) }
     ensures table { seat.new.table ≡ seat.old.table }
-    ensures rows { length seat.new.knows.sessions ≡ length seat.old.knows.sessions }
 {
     let item = item(alloc, lease, body).ok_or("an item")?;
     match leases.send(seat, 0, item) {
@@ -133,9 +127,8 @@ fn send(
     body: &[u8],
 ) -> Result<Result<Sent, SendError>, Fail>
     requires table { seat.old.table ≡ leases.now }
-    requires session { (0 < leases.now.shape.sessions) × (0 < length seat.old.knows.sessions) }
+    requires session { 0 < leases.now.shape.sessions }
     ensures table { seat.new.table ≡ seat.old.table }
-    ensures rows { length seat.new.knows.sessions ≡ length seat.old.knows.sessions }
 {
     let lease = hold(leases, seat, 0).ok_or("no lease")?;
     send_by(alloc, leases, seat, lease, body)
@@ -144,9 +137,8 @@ fn send(
 // Sends the body so many times, and says whether each was sent as the next one of lease 1.
 fn sends(alloc: Global, leases: &Leases, seat: &mut LibrarySeat, count: u32) -> Result<bool, Fail>
     requires table { seat.old.table ≡ leases.now }
-    requires session { (0 < leases.now.shape.sessions) × (0 < length seat.old.knows.sessions) }
+    requires session { 0 < leases.now.shape.sessions }
     ensures table { seat.new.table ≡ seat.old.table }
-    ensures rows { length seat.new.knows.sessions ≡ length seat.old.knows.sessions }
 {
     for before in 0..count {
         let sent = Sent {

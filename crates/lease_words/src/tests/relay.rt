@@ -1,6 +1,6 @@
 //! An engine and four libraries in threads of their own, which grant, send, give back, take back
 //! and take at random.
-ghost use Rattle.std.specs.Prelude.{◌≡◌, ◌<◌, ◌≤◌, true, length, IfOk, IfSome, IsSome, OnOk};
+ghost use Rattle.std.specs.Prelude.{◌≡◌, ◌<◌, ◌≤◌, true, IfSome, IsSome};
 ghost use Rattle.lease_words.specs.Leases.{is_running, held_lease};
 ghost use Rattle.lease_words.specs.Views.{engine_at, library_at, pending};
 
@@ -140,9 +140,8 @@ fn drain(
     lease: u32,
 ) -> Option<()>
     requires table { engine.old.table ≡ leases.now }
-    requires session { (s < leases.now.shape.sessions) × (s < length engine.old.knows.sessions) × (s < 3) }
+    requires session { (s < leases.now.shape.sessions) × (s < 3) }
     ensures table { engine.new.table ≡ engine.old.table }
-    ensures rows { length engine.new.knows.sessions ≡ length engine.old.knows.sessions }
     ensures lines { (engine_at engine.new s).lines ≡ (engine_at engine.old s).lines }
     ensures taken { IsSome result → pending (engine_at engine.new s) ≡ 0 }
 {
@@ -161,10 +160,9 @@ fn drain(
 // one that ended the next is granted.
 fn engine_step(leases: &Leases, engine: &mut EngineSeat, taker: &mut Taker, s: u16) -> Option<()>
     requires table { engine.old.table ≡ leases.now }
-    requires session { (s < leases.now.shape.sessions) × (s < length engine.old.knows.sessions) × (s < 3) }
+    requires session { (s < leases.now.shape.sessions) × (s < 3) }
     requires libraries { 4 ≤ leases.now.shape.libraries }
     ensures table { engine.new.table ≡ engine.old.table }
-    ensures rows { length engine.new.knows.sessions ≡ length engine.old.knows.sessions }
 {
     let (word, active) = is_active(leases, engine, s);
     if active && taker.draw.below(40) == 0 {
@@ -185,7 +183,6 @@ fn have_ended(leases: &Leases, engine: &mut EngineSeat) -> bool
     requires table { engine.old.table ≡ leases.now }
     requires libraries { 4 ≤ leases.now.shape.libraries }
     ensures table { engine.new.table ≡ engine.old.table }
-    ensures rows { length engine.new.knows.sessions ≡ length engine.old.knows.sessions }
 {
     for library in 1..5u8 {
         if leases.beats(engine, library) == 0 {
@@ -197,10 +194,9 @@ fn have_ended(leases: &Leases, engine: &mut EngineSeat) -> bool
 
 fn run_engine(leases: &Leases, mut engine: EngineSeat, mut taker: Taker) -> (EngineSeat, Taker)
     requires table { engine.table ≡ leases.now }
-    requires sessions { (3 ≤ leases.now.shape.sessions) × (3 ≤ length engine.knows.sessions) }
+    requires sessions { 3 ≤ leases.now.shape.sessions }
     requires libraries { 4 ≤ leases.now.shape.libraries }
     ensures table { result.0.table ≡ leases.now }
-    ensures sessions { 3 ≤ length result.0.knows.sessions }
 {
     for _ in 0..MOST {
         let s = taker.draw.session();
@@ -224,10 +220,9 @@ fn send_some(
     lease: u32,
 ) -> Option<()>
     requires table { seat.old.table ≡ leases.now }
-    requires session { (s < leases.now.shape.sessions) × (s < length seat.old.knows.sessions) }
+    requires session { s < leases.now.shape.sessions }
     requires held { (0 < lease) × (held_lease (library_at seat.old s).leases ≡ lease) }
     ensures table { seat.new.table ≡ seat.old.table }
-    ensures rows { length seat.new.knows.sessions ≡ length seat.old.knows.sessions }
 {
     let count = 1 + sender.draw.below(6);
     for _ in 0..count {
@@ -260,10 +255,9 @@ fn library_step(
     s: u16,
 ) -> Option<bool>
     requires table { seat.old.table ≡ leases.now }
-    requires session { (s < leases.now.shape.sessions) × (s < length seat.old.knows.sessions) }
+    requires session { s < leases.now.shape.sessions }
     requires libraries { 4 ≤ leases.now.shape.libraries }
     ensures table { seat.new.table ≡ seat.old.table }
-    ensures rows { length seat.new.knows.sessions ≡ length seat.old.knows.sessions }
 {
     let Some(lease) = hold(leases, seat, s) else {
         return Some(false);
@@ -288,7 +282,7 @@ fn run_library(
     mut sender: Sender,
 ) -> (LibrarySeat, Sender)
     requires table { seat.table ≡ leases.now }
-    requires sessions { (3 ≤ leases.now.shape.sessions) × (3 ≤ length seat.knows.sessions) }
+    requires sessions { 3 ≤ leases.now.shape.sessions }
     requires libraries { 4 ≤ leases.now.shape.libraries }
     ensures table { result.0.table ≡ leases.now }
 {
@@ -317,7 +311,6 @@ fn run_two<R: Threads + Sync>(
     seed: u64,
 ) -> ((LibrarySeat, Sender), (LibrarySeat, Sender))
     requires tables { (first.table ≡ leases.now) × (second.table ≡ leases.now) }
-    requires rows { (3 ≤ length first.knows.sessions) × (3 ≤ length second.knows.sessions) }
     requires sessions { 3 ≤ leases.now.shape.sessions }
     requires libraries { 4 ≤ leases.now.shape.libraries }
     ensures tables { (result.0.0.table ≡ leases.now) × (result.1.0.table ≡ leases.now) }
@@ -327,11 +320,11 @@ fn run_two<R: Threads + Sync>(
     thread::join(
         rt,
         move || -> (LibrarySeat, Sender)
-            requires { (first.table ≡ leases.now) × (3 ≤ length first.knows.sessions) × (3 ≤ leases.now.shape.sessions) × (4 ≤ leases.now.shape.libraries) }
+            requires { (first.table ≡ leases.now) × (3 ≤ leases.now.shape.sessions) × (4 ≤ leases.now.shape.libraries) }
             ensures { result.0.table ≡ leases.entry.now }
         { run_library(alloc, leases, first, one) },
         move || -> (LibrarySeat, Sender)
-            requires { (second.table ≡ leases.now) × (3 ≤ length second.knows.sessions) × (3 ≤ leases.now.shape.sessions) × (4 ≤ leases.now.shape.libraries) }
+            requires { (second.table ≡ leases.now) × (3 ≤ leases.now.shape.sessions) × (4 ≤ leases.now.shape.libraries) }
             ensures { result.0.table ≡ leases.entry.now }
         { run_library(alloc, leases, second, two) },
     )
@@ -352,10 +345,10 @@ fn run_four<R: Threads + Sync>(
     (LibrarySeat, Sender),
     (LibrarySeat, Sender),
 )
-    requires first { (first.table ≡ leases.now) × (3 ≤ length first.knows.sessions) }
-    requires second { (second.table ≡ leases.now) × (3 ≤ length second.knows.sessions) }
-    requires third { (third.table ≡ leases.now) × (3 ≤ length third.knows.sessions) }
-    requires fourth { (fourth.table ≡ leases.now) × (3 ≤ length fourth.knows.sessions) }
+    requires first { first.table ≡ leases.now }
+    requires second { second.table ≡ leases.now }
+    requires third { third.table ≡ leases.now }
+    requires fourth { fourth.table ≡ leases.now }
     requires sessions { 3 ≤ leases.now.shape.sessions }
     requires libraries { 4 ≤ leases.now.shape.libraries }
     ensures first { result.0.0.table ≡ leases.now }
@@ -366,11 +359,11 @@ fn run_four<R: Threads + Sync>(
     let ((one, two), (three, four)) = thread::join(
         rt,
         move || -> ((LibrarySeat, Sender), (LibrarySeat, Sender))
-            requires { (first.table ≡ leases.now) × (second.table ≡ leases.now) × (3 ≤ length first.knows.sessions) × (3 ≤ length second.knows.sessions) × (3 ≤ leases.now.shape.sessions) × (4 ≤ leases.now.shape.libraries) }
+            requires { (first.table ≡ leases.now) × (second.table ≡ leases.now) × (3 ≤ leases.now.shape.sessions) × (4 ≤ leases.now.shape.libraries) }
             ensures { (result.0.0.table ≡ leases.entry.now) × (result.1.0.table ≡ leases.entry.now) }
         { run_two(rt, alloc, leases, first, second, 1) },
         move || -> ((LibrarySeat, Sender), (LibrarySeat, Sender))
-            requires { (third.table ≡ leases.now) × (fourth.table ≡ leases.now) × (3 ≤ length third.knows.sessions) × (3 ≤ length fourth.knows.sessions) × (3 ≤ leases.now.shape.sessions) × (4 ≤ leases.now.shape.libraries) }
+            requires { (third.table ≡ leases.now) × (fourth.table ≡ leases.now) × (3 ≤ leases.now.shape.sessions) × (4 ≤ leases.now.shape.libraries) }
             ensures { (result.0.0.table ≡ leases.entry.now) × (result.1.0.table ≡ leases.entry.now) }
         { run_two(rt, alloc, leases, third, fourth, 2) },
     );
@@ -380,9 +373,8 @@ fn run_four<R: Threads + Sync>(
 // Takes a session back where it is still active, and takes what was sent.
 fn close(leases: &Leases, engine: &mut EngineSeat, taker: &mut Taker, s: u16) -> Option<()>
     requires table { engine.old.table ≡ leases.now }
-    requires session { (s < leases.now.shape.sessions) × (s < length engine.old.knows.sessions) × (s < 3) }
+    requires session { (s < leases.now.shape.sessions) × (s < 3) }
     ensures table { engine.new.table ≡ engine.old.table }
-    ensures rows { length engine.new.knows.sessions ≡ length engine.old.knows.sessions }
 {
     let (mut word, active) = is_active(leases, engine, s);
     if active {
@@ -395,7 +387,7 @@ fn close(leases: &Leases, engine: &mut EngineSeat, taker: &mut Taker, s: u16) ->
 
 fn close_all(leases: &Leases, engine: &mut EngineSeat, taker: &mut Taker) -> Option<()>
     requires table { engine.old.table ≡ leases.now }
-    requires sessions { (3 ≤ leases.now.shape.sessions) × (3 ≤ length engine.old.knows.sessions) }
+    requires sessions { 3 ≤ leases.now.shape.sessions }
     ensures table { engine.new.table ≡ engine.old.table }
 {
     for s in 0..3u16 {
@@ -451,8 +443,8 @@ fn nothing_is_lost_or_taken_twice(rt: HostRuntime) -> Result<(), Fail> {
     let ((mut engine, mut taker), (one, two, three, four)) = thread::join(
         &rt,
         move || -> (EngineSeat, Taker)
-            requires { (engine.table ≡ table.now) × (3 ≤ table.now.shape.sessions) × (3 ≤ length engine.knows.sessions) × (4 ≤ table.now.shape.libraries) }
-            ensures { (result.0.table ≡ table.entry.now) × (3 ≤ length result.0.knows.sessions) }
+            requires { (engine.table ≡ table.now) × (3 ≤ table.now.shape.sessions) × (4 ≤ table.now.shape.libraries) }
+            ensures { result.0.table ≡ table.entry.now }
         { run_engine(table, engine, taker) },
         move || run_four(handle, alloc, table, first, second, third, fourth),
     );
