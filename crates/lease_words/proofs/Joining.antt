@@ -1,6 +1,6 @@
 -- A table begins under its rule, and keeps it where seats are cut apart, joined, and meet.
-use Rattle.std.proofs.Common.{◌≡◌, ◌≢◌, ℕ, zero, suc, ◌<◌, ◌⊎◌, List, [], ◌∷◌, ◌++◌, length, set, true, Option, None, refl, sym, ap, ◌∙◌, subst, inl, inr, ⊎_elim, arith}
-use mathlib.Core.Option.{none, some, some-injective, some-ne-none}
+use Rattle.std.proofs.Common.{◌≡◌, ◌≢◌, ℕ, ◌<◌, List, [], ◌∷◌, ◌++◌, length, set, true, Option, None, refl, sym, ap, ◌∙◌, subst, ⊎_elim, arith}
+use mathlib.Core.Option.{none, some}
 use lib.ListN.{get_elem?}
 use lib.Seq.{set-get_or}
 use Rattle.atomic_table.specs.Table.{State, step, keeps, Allows, Splits, Joins, opening}
@@ -18,6 +18,7 @@ use Rattle.atomic_table.proofs.Lists.{at_set, set_else}
 use Rattle.lease_words.proofs.Opening.{begins}
 use Rattle.lease_words.proofs.Told.{met, engine_met_so, library_met_so}
 use Rattle.lease_words.proofs.Places.{updated, updated_here, updated_else}
+use Rattle.lease_words.proofs.Lists.{at_end, each_two}
 use Rattle.lease_words.proofs.Seats.{off, each_map, views_set}
 use Rattle.std.specs.Prelude.{replicate}
 
@@ -32,20 +33,9 @@ opens k shape fresh = begins k shape fresh
 abbrev with_libraries : Truth → (ℕ → ℕ) → Truth
 with_libraries t libraries = record { sessions = t.sessions; beats = t.beats; engine = t.engine; libraries = libraries }
 
--- of both facts
-each_two : {A : Type 0} (P Q R : A → Type 0) (xs : List A) → ((x : A) → P x → Q x → R x) → Each P xs → Each Q xs → Each R xs
-each_two P Q R [] f all also = tt
-each_two P Q R (x ∷ xs) f all also = (f x all.0 also.0, each_two P Q R xs f all.1 also.1)
-
 whole : (ls : List LibraryKnows) → 0 < length ls → ls ≡ first_library ls ∷ other_libraries ls
 whole [] more = absurd (omega arith)
 whole (l ∷ ls) more = refl
-
-at_end : (l : List View) (a : View) (j : ℕ) (b : View) → get_elem? (l ++ a ∷ []) j ≡ some b → (get_elem? l j ≡ some b) ⊎ ((j ≡ length l) × (a ≡ b))
-at_end [] a zero b e = inr (refl, some-injective a b e)
-at_end [] a (suc j) b e = absurd (some-ne-none b (sym e))
-at_end (x ∷ xs) a zero b e = inl e
-at_end (x ∷ xs) a (suc j) b e = ⊎_elim (λ h. inl h) (λ t. inr (ap suc t.0, t.1)) (at_end xs a j b e)
 
 module _ (k : Shape) (id : ℕ) where
   -- another seat is the library's

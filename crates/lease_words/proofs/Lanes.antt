@@ -16,16 +16,12 @@ use Rattle.lease_words.specs.Leases.{Each, Stands, OthersRest, FirstRuns, AreLin
 use Rattle.lease_words.specs.Views.{granted_lines}
 use Rattle.lease_words.specs.Sees.{give_back, fresh_line}
 use Rattle.lease_words.specs.Facts.{Lane, IsLane}
+use Rattle.lease_words.proofs.Lists.{each_two}
 use Rattle.lease_words.proofs.Lines.{GoesOn, as_front, get_push, get_push_before, get_push_here, get_within, granted_push, total_push, running_above}
 
 each_map : {A : Type 0} (P Q : A → Type 0) (xs : List A) → ((x : A) → P x → Q x) → Each P xs → Each Q xs
 each_map P Q [] f all = tt
 each_map P Q (x ∷ xs) f all = (f x all.0, each_map P Q xs f all.1)
-
--- of both facts
-each_map_two : {A : Type 0} (P Q R : A → Type 0) (xs : List A) → ((x : A) → P x → Q x → R x) → Each P xs → Each Q xs → Each R xs
-each_map_two P Q R [] f all also = tt
-each_map_two P Q R (x ∷ xs) f all also = (f x all.0 also.0, each_map_two P Q R xs f all.1 also.1)
 
 -- a lease stands in one line more
 pub stands_push : (base : ℕ) (lines : List Line) (z : Line) (library : ℕ) (h : Held) → Stands base lines library h → Stands base (lines ++ z ∷ []) library h
@@ -151,7 +147,7 @@ module _ (base library : ℕ) (front : List Line) (x y : Line) (ran : x.ending �
       (get_push front y l k at)
 
   all_move : (h' : Held) (hs : List Held) → Stands base (front ++ y ∷ []) library h' → Each (Stands base (front ++ x ∷ []) library) hs → AllEnded hs → Each (Stands base (front ++ y ∷ []) library) (h' ∷ hs)
-  all_move h' hs first all ended = (first, each_map_two (Stands base (front ++ x ∷ []) library) (λ (g : Held). runs g.ending ≡ false) (Stands base (front ++ y ∷ []) library) hs ended_stays all ended)
+  all_move h' hs first all ended = (first, each_two (Stands base (front ++ x ∷ []) library) (λ (g : Held). runs g.ending ≡ false) (Stands base (front ++ y ∷ []) library) hs ended_stays all ended)
 
   sent_stands : (leases : List Held) → y.ending ≡ Running → y.sends ≡ x.sends + 1 → held_lease leases ≡ suc (length front) → Each (Stands base (front ++ x ∷ []) library) leases → FirstRuns leases → Each (Stands base (front ++ y ∷ []) library) (counted_first leases)
   sent_stands [] runs more held all latest = tt
@@ -311,7 +307,7 @@ module _ (base library : ℕ) (lines : List Line) (x : Line) (k : ℕ) (ran : x.
   none_there [] other latest all = tt
   none_there (h ∷ hs) other latest all = (
     (λ e. other (held_where h.ending h.lease (runs_there h all.0 e) ∙ e)),
-    each_map_two (Stands base lines library) (λ (g : Held). runs g.ending ≡ false) (λ (g : Held). g.lease ≢ suc k) hs (λ g s ended e. running_runs g.ending (runs_there g s e) ended) all.1 latest,
+    each_two (Stands base lines library) (λ (g : Held). runs g.ending ≡ false) (λ (g : Held). g.lease ≢ suc k) hs (λ g s ended e. running_runs g.ending (runs_there g s e) ended) all.1 latest,
   )
 
   -- a new lease is held

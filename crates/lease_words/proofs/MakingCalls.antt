@@ -6,7 +6,6 @@ use Rattle.atomic_table.specs.declared.shared.Seat.{Seat}
 use Rattle.lease_core.specs.declared.lease.Line.{Line}
 use Rattle.lease_words.specs.declared.item.Item.{Item}
 use Rattle.lease_words.specs.declared.view.Shape.{Shape}
-use Rattle.lease_words.specs.declared.view.EngineSession.{EngineSession}
 use Rattle.lease_words.specs.declared.view.EngineKnows.{EngineKnows}
 use Rattle.lease_words.specs.declared.view.LibraryKnows.{LibraryKnows}
 use Rattle.lease_words.specs.declared.view.View.{View}
@@ -16,6 +15,7 @@ use Rattle.lease_words.specs.Layout.{word_count, slot_count}
 use Rattle.lease_words.specs.Views.{TableRef, EngineView, LibraryView, other_libraries, engine_session, no_engine_session, no_library_session, engine_view, library_view, last_library, first_library, first_alone, lines_before, repeated, new_engine_session, new_engine_sessions, new_engine, new_library, new_libraries}
 use Rattle.lease_words.specs.Rule.{Ruled, IsShape}
 use Rattle.lease_words.specs.Tokens.{engine_row, library_row, IsEngine, IsLibrary, new_library_seat, new_library_seats}
+use Rattle.lease_words.proofs.Opening.{length-repeated, length-sessions, engine_begins}
 use Rattle.lease_words.proofs.Joining.{opens}
 
 -- rows of sessions that were never granted
@@ -36,10 +36,6 @@ library_rows_begin : (number n : ℕ) → map (library_row number) (repeated n n
 library_rows_begin number zero = refl
 library_rows_begin number (suc n) = ap (λ (rs : List LibraryRow). new_library_row ∷ rs) (library_rows_begin number n)
 
-length-repeated : {A : Type 0} (n : ℕ) (x : A) → length (repeated n x) ≡ n
-length-repeated zero x = refl
-length-repeated (suc n) x = ap suc (length-repeated n x)
-
 -- the seat of a library that was cut off
 pub dealt : (seat : Seat (Option Item) View) (number : ℕ) (rows : List LibraryRow) (k : Shape) (v : View) → seat.me ≡ (first_alone v, []) → v.shape ≡ k → first_library v.libraries ≡ new_library k number → rows ≡ replicate k.sessions new_library_row
     → 1 ≤ number → number ≤ k.libraries → k.libraries ≤ 16 → IsLibrary seat number 0 rows
@@ -59,9 +55,6 @@ dealt seat number rows k v is shape new blank one most few =
     }
 
 -- the engine's numbers of a new session
-abbrev engine_begins : ℕ → List Line → EngineSession
-engine_begins libraries lines = record { base = length lines; lines = lines; words = []; looks = 0; taken = repeated libraries []; published = 0 }
-
 engine_row_begins : (libraries : ℕ) → engine_row (engine_begins libraries []) ≡ new_engine_row
 engine_row_begins libraries = ap (λ (n : ℕ). record { lease = 0; library = 0; count = 0; pending = n }) (none_less (length (get_or (repeated {A = List Item} libraries []) 0 [])))
   where
@@ -83,10 +76,6 @@ module _ (k : Shape) (fresh : k.before ≡ []) where
   last_begins s zero i = refl
   last_begins s (suc n) zero = ap (λ (r : EngineRow). r.library) (engine_row_new s)
   last_begins s (suc n) (suc i) = last_begins (suc s) n i
-
-length-sessions : (k : Shape) (i n : ℕ) → length (new_engine_sessions k i n) ≡ n
-length-sessions k i zero = refl
-length-sessions k i (suc n) = ap suc (length-sessions k (suc i) n)
 
 -- the seat of a new table
 pub laid : (seat : Seat (Option Item) View) (rows : List EngineRow) (k : Shape) (ls : List LibraryKnows) → seat.me ≡ (engine_view k (new_engine k) ls, []) → k.before ≡ [] → rows ≡ replicate k.sessions new_engine_row → IsEngine seat rows

@@ -27,7 +27,7 @@ repeated_is zero i x = refl
 repeated_is (suc n) zero x = refl
 repeated_is (suc n) (suc i) x = repeated_is n i x
 
-length-repeated : {A : Type 0} (n : ℕ) (x : A) → length (repeated n x) ≡ n
+pub length-repeated : {A : Type 0} (n : ℕ) (x : A) → length (repeated n x) ≡ n
 length-repeated zero x = refl
 length-repeated (suc n) x = ap suc (length-repeated n x)
 
@@ -55,7 +55,7 @@ sessions_at k i zero j h = absurd (omega arith)
 sessions_at k i (suc n) zero h = let e : i ≡ i + 0 = omega arith in ap (new_engine_session k) e
 sessions_at k i (suc n) (suc j) h = let e : suc i + j ≡ i + suc j = omega arith in sessions_at k (suc i) n j (omega arith) ∙ ap (new_engine_session k) e
 
-length-sessions : (k : Shape) (i n : ℕ) → length (new_engine_sessions k i n) ≡ n
+pub length-sessions : (k : Shape) (i n : ℕ) → length (new_engine_sessions k i n) ≡ n
 length-sessions k i zero = refl
 length-sessions k i (suc n) = ap suc (length-sessions k (suc i) n)
 
@@ -85,7 +85,7 @@ none_out : (n : ℕ) → 0 ≡ one_if (eqb 0 (suc n))
 none_out n = sym (ap one_if (ne_eqb 0 (suc n) (λ e. omega arith)))
 
 -- what seats know of a new session
-abbrev engine_begins : ℕ → List Line → EngineSession
+abbrev pub engine_begins : ℕ → List Line → EngineSession
 engine_begins libraries lines = record { base = length lines; lines = lines; words = []; looks = 0; taken = repeated libraries []; published = 0 }
 
 engine_fits : (libraries s : ℕ) → EngineFits libraries 0 0 s new_session (engine_begins libraries [])

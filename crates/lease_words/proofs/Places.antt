@@ -1,5 +1,5 @@
 -- The words and slots of a table are apart from each other.
-use Rattle.std.proofs.Common.{◌≡◌, ◌≢◌, ℕ, zero, suc, ◌+◌, ◌-◌, ◌*◌, ◌/◌, ◌%◌, ◌<◌, ◌≤◌, ◌⊎◌, List, [], ◌∷◌, ◌++◌, length, get_or, set, eqb, Option, Some, None, refl, sym, ap, ◌∙◌, subst, inl, inr, ⊎_elim, arith, cond, eq-eqb, ne_eqb, lt_of_not-le, mul-le-mul_right, suc-mul, length-append, length-set}
+use Rattle.std.proofs.Common.{◌≡◌, ◌≢◌, ℕ, suc, ◌+◌, ◌-◌, ◌*◌, ◌/◌, ◌%◌, ◌<◌, ◌≤◌, List, [], ◌∷◌, ◌++◌, length, get_or, set, eqb, Option, Some, None, refl, sym, ap, ◌∙◌, subst, ⊎_elim, arith, cond, eq-eqb, ne_eqb, lt_of_not-le, mul-le-mul_right, suc-mul, length-append, length-set}
 use Rattle.std.proofs.lemmas.List.{get_or-set_same, get_or-set_other, set-get_or}
 use Rattle.std.proofs.lemmas.Nat.{div-mul-add, mod-mul-add}
 use native.Mathlib.Nat.{add-mod_right}
@@ -14,6 +14,7 @@ use Rattle.lease_words.specs.declared.item.Item.{Item}
 use Rattle.lease_words.specs.declared.view.Shape.{Shape}
 use Rattle.lease_words.specs.Layout.{lease_word, published_word, taken_word, beat_word, word_count, session_at, lane_at, beating_at, lane_of, slot_of, slot_count}
 use Rattle.lease_words.specs.Facts.{Lane, Session}
+use Rattle.lease_words.proofs.Lists.{there, below_length, at_end}
 use Rattle.lease_words.specs.Rule.{Truth, IsShape, WordsFit, SlotsFit}
 
 -- one of a function's values is changed
@@ -183,22 +184,6 @@ module _ (k : Shape) (words : List ℕ) (t : Truth) (shape : IsShape k) (fit : W
 
 abbrev pub Homes : Type 0
 Homes = List (place.Option (Option Item))
-
-there : (l : List Item) (i : ℕ) → i < length l → (a : Item) × (get_elem? l i ≡ some a)
-there [] i h = absurd (omega arith)
-there (x ∷ xs) zero h = (x, refl)
-there (x ∷ xs) (suc i) h = there xs i (omega arith)
-
-below_length : (l : List Item) (i : ℕ) (a : Item) → get_elem? l i ≡ some a → i < length l
-below_length [] i a e = absurd (some-ne-none a (sym e))
-below_length (x ∷ xs) zero a e = omega arith
-below_length (x ∷ xs) (suc i) a e = let h = below_length xs i a e in omega arith
-
-at_end : (l : List Item) (a : Item) (j : ℕ) (b : Item) → get_elem? (l ++ a ∷ []) j ≡ some b → (get_elem? l j ≡ some b) ⊎ ((j ≡ length l) × (a ≡ b))
-at_end [] a zero b e = inr (refl, some-injective a b e)
-at_end [] a (suc j) b e = absurd (some-ne-none b (sym e))
-at_end (x ∷ xs) a zero b e = inl e
-at_end (x ∷ xs) a (suc j) b e = ⊎_elim (λ h. inl h) (λ t. inr (ap suc t.0, t.1)) (at_end xs a j b e)
 
 module _ (k : Shape) (homes : Homes) (s library : ℕ) (one : 1 ≤ library) (most : library ≤ k.libraries) where
   -- another slot of the lane stays

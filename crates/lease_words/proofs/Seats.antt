@@ -18,14 +18,11 @@ use Rattle.lease_words.specs.Leases.{Each}
 use Rattle.lease_words.specs.Views.{base_of, no_engine_session, engine_session, with_engine_session, no_library_session, library_session, with_library_session, engine_view, library_view, taken_of}
 use Rattle.lease_words.specs.Facts.{Lane, Session, KnowsLane, EngineFits, LibraryFits}
 use Rattle.lease_words.specs.Rule.{Truth, EngineKnowsSo, LibraryKnowsSo, KnowsSo}
+pub use Rattle.lease_words.proofs.Lists.{each_map}
 use Rattle.lease_words.proofs.Places.{updated, updated_all}
 
 pub off : {P : Type 0} → false ≡ true → P
 off e = absurd (true≢false (sym e))
-
-pub each_map : {A : Type 0} {P Q : A → Type 0} → ((x : A) → P x → Q x) → (xs : List A) → Each P xs → Each Q xs
-each_map f [] e = tt
-each_map f (x ∷ xs) e = (f x e.0, each_map f xs e.1)
 
 abbrev pub with_session : Truth → ℕ → Session → Truth
 with_session t s x = record { sessions = updated t.sessions s x; beats = t.beats; engine = t.engine; libraries = t.libraries }

@@ -13,9 +13,6 @@ use crate::library_seat::LibrarySeat;
 use crate::plays::{Arrive, Beat, GiveUp, See};
 use lease_core::{Standing, Word, read_word, write_word};
 
-// The count is the lower half of a lease word's number.
-pub(crate) const COUNTS: u64 = 1 << 32;
-
 // The word of a session that was never granted.
 const OPENING: Word = Word {
     lease: 0,

@@ -8,13 +8,15 @@ ghost use Rattle.lease_words.specs.Answers.{active_word, HasLoaded, IsRefusal, I
 use crate::item::{Item, SendError, Sent};
 use crate::layout::{lease_word, slot_of, taken_word};
 use crate::leases::Leases;
-use crate::library_calls::COUNTS;
 use crate::library_seat::LibrarySeat;
 use crate::plays::{Claim, Commit, HandBack};
 use crate::rows::LibraryRow;
 use crate::view::View;
 use atomic_table::Seat;
 use lease_core::read_word;
+
+// The count is the lower half of a lease word's number.
+const COUNTS: u64 = 1 << 32;
 
 impl Leases {
     /// Sends an item by the lease that it names, which the seat has to hold. The item is sent
