@@ -19,11 +19,11 @@ use Rattle.lease_words.specs.declared.view.EngineKnows.{EngineKnows}
 use Rattle.lease_words.specs.declared.view.LibrarySession.{LibrarySession}
 use Rattle.lease_words.specs.declared.view.LibraryKnows.{LibraryKnows}
 use Rattle.lease_words.specs.Layout.{lane_of}
-use Rattle.lease_words.specs.Leases.{Each, Stands, OthersRest, FitsEnding, IsKept, new_lease, lease_in}
-use Rattle.lease_words.specs.Views.{base_of, no_engine_session, engine_session, no_library_session, library_session, heard_of, unheard, taken_of}
+use Rattle.lease_words.specs.Leases.{Each, Stands, OthersRest, AreLines, FitsEnding, IsKept, new_lease, lease_in, total}
+use Rattle.lease_words.specs.Views.{base_of, no_engine_session, engine_session, no_library_session, library_session, heard_of, unheard, taken_of, granted_lines}
 use Rattle.lease_words.specs.Facts.{Lane, Session, IsLane, IsSession, Follows, KnowsLane, EngineFits, LibraryFits, one_if}
 use Rattle.lease_words.specs.Rule.{Truth, EngineKnowsSo, LibraryKnowsSo}
-use Rattle.lease_words.specs.Tells.{HasSeen, IsSeen, IsDone, HaveMet, Met, engine_told, library_told, engine_sessions_told, library_sessions_told, engine_met, library_met}
+use Rattle.lease_words.specs.Tells.{HasSeen, IsSeen, IsDone, AreOne, HaveMet, Met, engine_told, library_told, engine_sessions_told, library_sessions_told, engine_met, library_met}
 use Rattle.lease_words.proofs.Lines.{get_push, get_push_before, get_push_here, get_within, follows_length, fits_count}
 use Rattle.lease_words.proofs.Seats.{each_map}
 
@@ -198,7 +198,19 @@ nothing_out taking n rests = ap one_if (ne_eqb taking (suc n) (λ e. omega arith
 -- One session, and what both know of it.
 module _ (libraries depth sends library base s taking sending : ℕ) (one : 1 ≤ library) (most : library ≤ libraries) (t : Session) (es : EngineSession) (ls : LibrarySession)
     (so : IsSession base libraries depth t) (e : EngineFits libraries base taking s t es) (l : LibraryFits sends library sending s t ls) where
-  have_met : HaveMet depth library es ls
+  as_one : AreOne libraries library es ls
+  as_one = let is : IsLane base depth t.lines library (t.lanes library) = so.lanes library one most in record {
+    lines = t.lines;
+    are_lines = subst (λ (b : ℕ). AreLines b libraries t.lines) (sym e.based) so.are_lines;
+    follows = subst (λ (shown : List Line). Follows shown t.lines) (sym e.lines) so.follows;
+    stands = subst (λ (z : ℕ × List Held). Each (Stands z.0 t.lines library) z.1) (λ i. (sym e.based i, sym l.leases i)) is.stands;
+    rest = subst (λ (z : ℕ × List Held). OthersRest z.0 t.lines library z.1) (λ i. (sym e.based i, sym l.leases i)) is.others;
+    all = ap length l.items ∙ (is.all ∙ ap (λ (b : ℕ). total library (granted_lines b t.lines)) (sym e.based));
+    engine_words = e.words;
+    library_words = l.words;
+  }
+
+  have_met : HaveMet libraries depth library es ls
   have_met =
       let lane : Lane = t.lanes library in
       let is : IsLane base depth t.lines library lane = so.lanes library one most in
@@ -218,6 +230,7 @@ module _ (libraries depth sends library base s taking sending : ℕ) (one : 1 �
       let items : length ls.items ≡ length lane.items = ap length l.items in
       let taken : ls.taken ≤ lane.taken = l.taken in
       record {
+        as_one = as_one;
         leases = facts.0;
         others = facts.1;
         engine_words = facts.2;

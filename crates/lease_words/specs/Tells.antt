@@ -20,7 +20,7 @@ use Rattle.lease_words.specs.declared.view.LibrarySession.{LibrarySession}
 use Rattle.lease_words.specs.declared.view.LibraryKnows.{LibraryKnows}
 use Rattle.lease_words.specs.declared.view.View.{View}
 use Rattle.lease_words.specs.Layout.{session_at, lane_at, beating_at, lane_of, slot_of}
-use Rattle.lease_words.specs.Facts.{OthersTaken}
+use Rattle.lease_words.specs.Facts.{OthersTaken, Follows}
 use Rattle.lease_words.specs.Leases.{Each, Stands, OthersRest, AreLines, IsNotOlder, EndsLease, lease_in, held_lease, held_count, shows_lease, total}
 use Rattle.lease_words.specs.Views.{engine_session, with_engine_session, heard_of, with_heard, taken_of, library_session, with_library_session, granted_lines, last_library, pending, engine_view, library_view, first_library, other_libraries}
 use Rattle.lease_words.specs.Sees.{looked, granted, revoked, took, has_published, heard, taking_from, saw, saw_taken, saw_published, sent, lost_to, gave_back, has_beaten, sending_to}
@@ -297,8 +297,21 @@ pub record IsSeen (base library : ℕ) (lines : List Line) (h : Held) : Type 0 w
   pub whose : line.library ≡ library
   pub seen : HasSeen line.ending h line.sends
 
+-- At a meeting there are lines, which the engine's are or have gone on to, in which the library's leases stand with its own counts and which show
+-- every word that either side knew.
+pub record AreOne (libraries library : ℕ) (es : EngineSession) (ls : LibrarySession) : Type 0 where
+  pub lines : List Line
+  pub are_lines : AreLines es.base libraries lines
+  pub follows : Follows es.lines lines
+  pub stands : Each (Stands es.base lines library) ls.leases
+  pub rest : OthersRest es.base lines library ls.leases
+  pub all : length ls.items ≡ total library (granted_lines es.base lines)
+  pub engine_words : Each (IsShown lines) es.words
+  pub library_words : Each (IsShown lines) ls.words
+
 -- what is known of a session when the engine and a library meet
-pub record HaveMet (depth library : ℕ) (es : EngineSession) (ls : LibrarySession) : Type 0 where
+pub record HaveMet (libraries depth library : ℕ) (es : EngineSession) (ls : LibrarySession) : Type 0 where
+  pub as_one : AreOne libraries library es ls
   pub leases : Each (IsSeen es.base library es.lines) ls.leases
   pub others : OthersRest es.base es.lines library ls.leases
   pub engine_words : Each (IsDone es.base library es.lines ls.leases) es.words
@@ -310,7 +323,7 @@ pub record HaveMet (depth library : ℕ) (es : EngineSession) (ls : LibrarySessi
 
 -- and of all that they know
 pub record Met (shape : Shape) (e : EngineKnows) (k : LibraryKnows) : Type 0 where
-  pub sessions : (s : ℕ) → s < shape.sessions → HaveMet shape.depth k.number (engine_session e s) (library_session k s)
+  pub sessions : (s : ℕ) → s < shape.sessions → HaveMet shape.libraries shape.depth k.number (engine_session e s) (library_session k s)
   pub beats : (heard_of e k.number).count ≤ k.beats
 
 abbrev pub MeetTells : Step (Option Item) → Seated → ℕ → Seated → Type 0
