@@ -1,5 +1,5 @@
 -- Where the words and slots of a table lie.
--- Word 0 stays 0. Each session has a stretch of 32 words, of which its lease word is the first, and from the eighth on come the words that
+-- Word 0 stays 0. Each session has a stretch of 32 words, of which its lease word is the first, and from the ninth on come the words that
 -- the engine alone writes: the published count and the taken count of each library. Each library has a stretch for its beats.
 -- So no two words that different threads write stand within 64 bytes.
 use Rattle.std.specs.Prelude.{ℕ, ◌+◌, ◌-◌, ◌*◌, ◌/◌, ◌%◌}
