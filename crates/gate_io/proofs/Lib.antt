@@ -1,2 +1,3 @@
 pub mod WholeFacts
 pub mod WireFacts
+pub mod ClockFacts

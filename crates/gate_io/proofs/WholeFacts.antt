@@ -46,6 +46,12 @@ HasGiven-more (Some left) (Some rest) c given buf n fits before now =
     let grouped : left ≡ (given ++ take n rest) ++ drop n rest = joined ∙ sym (append_assoc given (take n rest) (drop n rest)) in
     (grouped ∙ ap (λ xs. xs ++ drop n rest) (sym front) ∙ ap (λ xs. (given ++ take n buf) ++ xs) (sym further), now.2 ∙ ap Some (sym further))
 
+-- a failed read gives nothing
+pub HasGiven-failed : (a b c : Option (List ℕ)) (given buf : List ℕ) → HasGiven a given b → GivesFrom b got.Failed buf c → HasGiven a given c
+HasGiven-failed None b c given buf before now = tt
+HasGiven-failed (Some left) None c given buf before now = absurd cc
+HasGiven-failed (Some left) (Some rest) c given buf before now = (before.0, now ∙ before.1)
+
 -- at the end all was given
 pub IsAllOf-end : (a b c : Option (List ℕ)) (given buf : List ℕ) → HasGiven a given b → GivesFrom b got.End buf c → IsAllOf a given
 IsAllOf-end None b c given buf before now = tt

@@ -5,5 +5,7 @@ pub mod Sink
 pub mod Wire
 pub mod MemSource
 pub mod MemSink
+pub mod Clock
 pub mod StepClock
+pub mod RealClock
 pub mod MemWire

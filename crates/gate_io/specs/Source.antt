@@ -21,6 +21,14 @@ abbrev pub HasGiven : Option (List ℕ) → List ℕ → Option (List ℕ) → T
 HasGiven None given after = Unit {0}
 HasGiven (Some left) given after = (left ≡ given ++ drop (length given) left) × (after ≡ Some (drop (length given) left))
 
+-- Where the bytes that were left are told, at most so many were read, the first of them, and the others are left.
+abbrev pub GaveWithin : Option (List ℕ) → ℕ → Option (List ℕ) → Type 0
+GaveWithin left limit after = (given : List ℕ) × (length given ≤ limit) × HasGiven left given after
+
+-- Where the bytes that were left are told, more than so many were read, the first of them, and the others are left.
+abbrev pub GaveMoreThan : Option (List ℕ) → ℕ → Option (List ℕ) → Type 0
+GaveMoreThan left limit after = (given : List ℕ) × (limit < length given) × HasGiven left given after
+
 -- Where the bytes that were left are told, these are all of them.
 abbrev pub IsAllOf : Option (List ℕ) → List ℕ → Type 0
 IsAllOf left bytes = IfSome left (λ all. bytes ≡ all)

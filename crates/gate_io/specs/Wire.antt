@@ -1,5 +1,6 @@
 use Rattle.std.specs.Prelude.{◌≡◌, ◌≢◌, ℕ, ◌+◌, ◌<◌, ◌≤◌, Bool, false, List, [], ◌++◌, Option, None, Some, IfSome, length, take, drop}
 use Rattle.gate_io.specs.Counts.{HasRisen}
+use Rattle.gate_io.specs.declared.wires.TheConstants.{FIRST_DIALLED}
 use Rattle.gate_io.specs.declared.wires.WireGot.{WireGot}
 use Rattle.gate_io.specs.declared.wires.WireGot.TheVariants as got
 use Rattle.gate_io.specs.declared.wires.WireWrote.{WireWrote}
@@ -8,6 +9,8 @@ use Rattle.gate_io.specs.declared.wires.Accepted.{Accepted}
 use Rattle.gate_io.specs.declared.wires.Accepted.TheVariants as accept
 use Rattle.gate_io.specs.declared.wires.Listened.{Listened}
 use Rattle.gate_io.specs.declared.wires.Listened.TheVariants as listen
+use Rattle.gate_io.specs.declared.dials.Dialled.{Dialled}
+use Rattle.gate_io.specs.declared.dials.Dialled.TheVariants as dial
 
 -- what a wire tells of one of its connections
 pub record Link : Type 0 where
@@ -24,9 +27,13 @@ pub record Link : Type 0 where
 
 -- what a wire tells beside its connections
 pub record Door : Type 0 where
+  -- how many connections were accepted, and how many dialled
   pub accepted : ℕ
+  pub dialled : ℕ
+  -- how often a listen, an accept and a dial failed, and how often an accept found nothing
   pub listen_faults : ℕ
   pub accept_faults : ℕ
+  pub dial_faults : ℕ
   pub idle_accepts : ℕ
 
 -- no count of a connection falls
@@ -40,18 +47,27 @@ pub record LinkGoesOn (old new : Link) : Type 0 where
 -- no count of the wire falls
 pub record DoorGoesOn (old new : Door) : Type 0 where
   pub accepted : old.accepted ≤ new.accepted
+  pub dialled : old.dialled ≤ new.dialled
   pub listen_faults : old.listen_faults ≤ new.listen_faults
   pub accept_faults : old.accept_faults ≤ new.accept_faults
+  pub dial_faults : old.dial_faults ≤ new.dial_faults
   pub idle_accepts : old.idle_accepts ≤ new.idle_accepts
 
 -- every connection but this one is as it was
 abbrev pub OthersStay : (ℕ → Link) → (ℕ → Link) → ℕ → Type 0
 OthersStay old new c = (d : ℕ) → d ≢ c → new d ≡ old d
 
--- a connection that was accepted and not closed
+-- A connection that was accepted or dialled and isn't closed. Accepted ones have the numbers from 0 on, dialled ones
+-- those from the first dialled number on.
 pub record IsOpen (door : Door) (links : ℕ → Link) (c : ℕ) : Type 0 where
-  pub accepted : c < door.accepted
+  pub accepted : c < FIRST_DIALLED → c < door.accepted
+  pub dialled : FIRST_DIALLED ≤ c → c < FIRST_DIALLED + door.dialled
   pub open_still : (links c).closed ≡ false
+
+-- a connection that begins is open, and nothing was written to it
+pub record IsNew (link : Link) : Type 0 where
+  pub open_still : link.closed ≡ false
+  pub unwritten : IfSome link.written (λ bytes. bytes ≡ [])
 
 -- a read into this much room gives at least one byte and no more than fit
 abbrev pub WireGotWithin : ℕ → WireGot → Type 0
@@ -96,15 +112,21 @@ WriteHasCause old new (wrote.Bytes n) = Unit {0}
 WriteHasCause old new wrote.Blocked = HasRisen old.write_blocks new.write_blocks
 WriteHasCause old new wrote.Failed = HasRisen old.write_faults new.write_faults
 
--- A new connection has the number of those accepted before it, is open, and nothing was written to it.
--- Nothing and Failed accept none, and each comes only where its own count rose.
+-- A new connection has the number of those accepted before it. Nothing and Failed accept none, and each comes only
+-- where its own count rose. No other count changes.
 abbrev pub Accepts : Door → Door → (ℕ → Link) → Accepted → Type 0
-Accepts old new links (accept.New c) = (c ≡ old.accepted) × (new.accepted ≡ old.accepted + 1) × ((links c).closed ≡ false) × IfSome (links c).written (λ bytes. bytes ≡ [])
-Accepts old new links accept.Nothing = (new.accepted ≡ old.accepted) × HasRisen old.idle_accepts new.idle_accepts
-Accepts old new links accept.Failed = (new.accepted ≡ old.accepted) × HasRisen old.accept_faults new.accept_faults
+Accepts old new links (accept.New c) = (c ≡ old.accepted) × (new ≡ record old { accepted = old.accepted + 1 }) × IsNew (links c)
+Accepts old new links accept.Nothing = (new ≡ record old { idle_accepts = new.idle_accepts }) × HasRisen old.idle_accepts new.idle_accepts
+Accepts old new links accept.Failed = (new ≡ record old { accept_faults = new.accept_faults }) × HasRisen old.accept_faults new.accept_faults
 
--- listening fails only where its count rose; want of memory raises none
+-- A new connection has the first dialled number and on top of it the number of those dialled before it. Failed dials
+-- none, and comes only where its own count rose. No other count changes.
+abbrev pub Dials : Door → Door → (ℕ → Link) → Dialled → Type 0
+Dials old new links (dial.New c) = (c ≡ FIRST_DIALLED + old.dialled) × (new ≡ record old { dialled = old.dialled + 1 }) × IsNew (links c)
+Dials old new links dial.Failed = (new ≡ record old { dial_faults = new.dial_faults }) × HasRisen old.dial_faults new.dial_faults
+
+-- listening fails only where its count rose; want of memory raises none, and no other count changes
 abbrev pub Listens : Door → Door → Listened → Type 0
-Listens old new listen.Ready = new.accepted ≡ old.accepted
+Listens old new listen.Ready = new ≡ old
 Listens old new listen.OutOfMemory = new ≡ old
-Listens old new listen.Failed = (new.accepted ≡ old.accepted) × HasRisen old.listen_faults new.listen_faults
+Listens old new listen.Failed = (new ≡ record old { listen_faults = new.listen_faults }) × HasRisen old.listen_faults new.listen_faults

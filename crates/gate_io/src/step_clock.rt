@@ -1,4 +1,5 @@
 ghost use Rattle.std.specs.Prelude.{◌≡◌, ◌<◌, ◌≤◌, ℕ, max};
+ghost use Rattle.gate_io.specs.Clock.{HasFigures, TakesReadings, greatest_of, last_of};
 ghost use Rattle.gate_io.specs.Counts.{HasRisen};
 ghost use Rattle.gate_io.specs.StepClock.{ClockState, clock_after};
 
@@ -49,6 +50,10 @@ impl Clock for StepClock {
     ghost greatest = { λ c. c.greatest };
 
     ghost readings = { λ c. c.readings };
+
+    ghost has_read = { λ c taken. HasFigures c.last c.greatest c.readings taken };
+
+    ghost figures = { λ c taken told. (told.last, told.greatest) };
 
     ghost now_gives = { λ before reading after. (reading ≡ before.moment) × (after ≡ clock_after before) };
 

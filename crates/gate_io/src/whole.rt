@@ -1,6 +1,6 @@
 ghost use Rattle.std.specs.Prelude.{◌≡◌, ◌≤◌, [], Some, IfOk, IfSome, OnOk, OnErr, IsErrOf, vec_len};
 ghost use Rattle.gate_io.specs.Counts.{HasRisen};
-ghost use Rattle.gate_io.specs.Source.{IsAllOf, IsLongerThan};
+ghost use Rattle.gate_io.specs.Source.{GaveMoreThan, GaveWithin, IsAllOf, IsLongerThan};
 ghost use Rattle.gate_io.specs.Sink.{HasTaken, HasTakenPrefix};
 ghost use Rattle.gate_io.specs.declared.whole.ReadAll.TheVariants.{OutOfMemory};
 
@@ -62,8 +62,7 @@ fn buffer_of(alloc: Global, len: usize) -> Result<Vec<u8>, AllocError>
     vec![in alloc; 0u8; len]
 }
 
-/// Reads a source to its end, where it has at most `limit` bytes. After an error the source stands
-/// behind what was read.
+/// Reads a source to its end, where it has at most `limit` bytes.
 pub fn read_all<So: Source>(
     alloc: Global,
     source: &mut So,
@@ -75,6 +74,10 @@ pub fn read_all<So: Source>(
     ensures within_limit { IfOk result (λ bytes. vec_len bytes ≤ limit) }
     ensures fault { IsErrOf result ReadAll.ReadFault → HasRisen (So.faults source.old) (So.faults source.new) }
     ensures too_long { IsErrOf result ReadAll.TooLong → IsLongerThan (So.left source.old) limit }
+    // What an error leaves: the source stands behind what it gave.
+    ensures fault_within { IsErrOf result ReadAll.ReadFault → GaveWithin (So.left source.old) limit (So.left source.new) }
+    ensures no_memory_within { IsErrOf result ReadAll.OutOfMemory → GaveWithin (So.left source.old) limit (So.left source.new) }
+    ensures too_long_past { IsErrOf result ReadAll.TooLong → GaveMoreThan (So.left source.old) limit (So.left source.new) }
     ensures ends_kept { So.ends source.old ≤ So.ends source.new }
     ensures faults_kept { So.faults source.old ≤ So.faults source.new }
 {

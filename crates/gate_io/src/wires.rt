@@ -1,8 +1,14 @@
 ghost use Rattle.std.specs.Prelude.{◌≡◌, ◌<◌, ◌≤◌, ℕ, List, Option, length, true};
 ghost use Rattle.gate_io.specs.Wire.{Link, Door, LinkGoesOn, DoorGoesOn, OthersStay, IsOpen, WireGotWithin, WireGivesFrom, ReadHasCause, WireWroteWithin, WireTakesFrom, WriteHasCause, Accepts, Listens};
 
-/// The most connections that one run accepts.
+/// The most connections that one run accepts. They have the numbers from 0 on.
 pub const MOST_CONNECTIONS: u32 = 1024;
+
+/// The number of the first connection that is dialled. Later ones have the numbers behind it.
+pub const FIRST_DIALLED: u32 = MOST_CONNECTIONS;
+
+/// The most connections that one run dials.
+pub const MOST_DIALLED: u32 = 1024;
 
 /// What a read of a connection gives.
 #[derive(Clone, Copy, Debug, PartialEq, Eq)]
@@ -47,12 +53,14 @@ pub enum Listened {
     Failed,
 }
 
-/// The connections to counterparties. A connection is named by a number from 0, in the order in
-/// which they were accepted.
+/// The connections to counterparties. A connection is named by a number: accepted ones from 0 on,
+/// and those that a wire with `Dial` dialled from `FIRST_DIALLED` on, each in the order in which
+/// they came.
 pub trait Wire {
     ghost use Rattle.gate_io.specs.declared.wires.WireGot.{WireGot};
     ghost use Rattle.gate_io.specs.declared.wires.WireWrote.{WireWrote};
     ghost use Rattle.gate_io.specs.declared.wires.Accepted.{Accepted};
+    ghost use Rattle.gate_io.specs.declared.wires.Listened.{Listened};
 
     /// What the wire tells of a connection.
     ghost link: { Self → ℕ → Link };
@@ -68,12 +76,25 @@ pub trait Wire {
     /// answer, the wire after.
     ghost write_gives: { Self → ℕ → List ℕ → WireWrote → Self → Type 0 } = { λ _ _ _ _ _. Unit {0} };
 
-    /// What an accept gives, for a wire that fixes it.
+    /// What an accept gives, for a wire that fixes it: the wire before, the answer, the wire after.
     ghost accept_gives: { Self → Accepted → Self → Type 0 } = { λ _ _ _. Unit {0} };
+
+    /// What a listen gives, for a wire that fixes it: the wire before, the address, the answer, the
+    /// wire after.
+    ghost listen_gives: { Self → List ℕ → Listened → Self → Type 0 } = { λ _ _ _ _. Unit {0} };
+
+    /// What a close leaves, for a wire that fixes it: the wire before, the connection, the wire
+    /// after.
+    ghost close_gives: { Self → ℕ → Self → Type 0 } = { λ _ _ _. Unit {0} };
+
+    /// What a pause leaves, for a wire that fixes it: the wire before, the milliseconds, the wire
+    /// after.
+    ghost pause_gives: { Self → ℕ → Self → Type 0 } = { λ _ _ _. Unit {0} };
 
     /// Begins to listen at an address, an IP address or host name with a port.
     fn listen(&mut self, address: &str) -> Listened
         ensures listens { Listens (door self.old) (door self.new) result }
+        ensures exact { listen_gives self.old address.now result self.new }
         ensures door_goes_on { DoorGoesOn (door self.old) (door self.new) }
         ensures links_stay { (c : ℕ) → link self.new c ≡ link self.old c };
 
@@ -83,6 +104,7 @@ pub trait Wire {
         ensures accepts { Accepts (door self.old) (door self.new) (link self.new) result }
         ensures exact { accept_gives self.old result self.new }
         ensures door_goes_on { DoorGoesOn (door self.old) (door self.new) }
+        ensures goes_on { LinkGoesOn (link self.old (door self.old).accepted) (link self.new (door self.old).accepted) }
         ensures others_stay { OthersStay (link self.old) (link self.new) (door self.old).accepted };
 
     fn read(&mut self, c: u32, buf: &mut [u8]) -> WireGot
@@ -115,6 +137,7 @@ pub trait Wire {
     fn close(&mut self, c: u32)
         requires { IsOpen (door self.old) (link self.old) c }
         ensures closed { (link self.new c).closed ≡ true }
+        ensures exact { close_gives self.old c self.new }
         ensures written_stays { (link self.new c).written ≡ (link self.old c).written }
         ensures goes_on { LinkGoesOn (link self.old c) (link self.new c) }
         ensures door_stays { door self.new ≡ door self.old }
@@ -122,6 +145,7 @@ pub trait Wire {
 
     /// Waits for something to do, for at most this many milliseconds where the wire waits at all.
     fn pause(&mut self, ms: u32)
+        ensures exact { pause_gives self.old ms self.new }
         ensures door_stays { door self.new ≡ door self.old }
         ensures links_stay { (c : ℕ) → link self.new c ≡ link self.old c };
 }

@@ -1,4 +1,4 @@
-use Rattle.std.proofs.Common.{length, ◌≤◌, arith}
+use Rattle.std.proofs.Common.{length, ◌≤◌, take, arith, length-append}
 use Rattle.std.proofs.lemmas.List.{length-take-le}
 use Rattle.gate_io.proofs.WholeFacts.{HasGiven-none, HasGiven-more, IsAllOf-end, nothing_left-end, IsLongerThan-bytes}
 use Rattle.gate_io.proofs.whole.read_all.Goals as goal
@@ -15,6 +15,18 @@ reading-init g c = record {
 pub returns-then-n-limit-clause-too_long : goal.returns-then-n-limit-clause-too_long
 returns-then-n-limit-clause-too_long g c _ =
     IsLongerThan-bytes _ _ _ _ _ _ _ c.reading.invariant.given c.in-Bytes.ensures.content (omega (arith, c.reading.bytes.ok.0, c.len.ensures, c.if-n-limit.true))
+
+pub returns-then-n-limit-clause-too_long_past : goal.returns-then-n-limit-clause-too_long_past
+returns-then-n-limit-clause-too_long_past g c _ =
+    let fits : c.in-Bytes.n ≤ length c.read.new.buf = omega (arith, c.in-Bytes.ensures.within) in
+    let len = length-append c.reading.bytes.items (take c.in-Bytes.n c.read.new.buf) in
+    (_, omega (arith, len, length-take-le c.in-Bytes.n c.read.new.buf fits, c.reading.bytes.ok.0, c.len.ensures, c.if-n-limit.true), HasGiven-more _ _ _ _ _ _ fits c.reading.invariant.given c.in-Bytes.ensures.content)
+
+pub returns-in_err-extend_from_slice-in-Bytes-clause-no_memory_within : goal.returns-in_err-extend_from_slice-in-Bytes-clause-no_memory_within
+returns-in_err-extend_from_slice-in-Bytes-clause-no_memory_within g c _ =
+    let fits : c.in-Bytes.n ≤ length c.read.new.buf = omega (arith, c.in-Bytes.ensures.within) in
+    let len = length-append c.reading.bytes.items (take c.in-Bytes.n c.read.new.buf) in
+    (_, omega (arith, len, length-take-le c.in-Bytes.n c.read.new.buf fits, c.reading.bytes.ok.0, c.len.ensures, c.if-n-limit.false, c.reading.invariant.within), HasGiven-more _ _ _ _ _ _ fits c.reading.invariant.given c.in-Bytes.ensures.content)
 
 pub reading-preserved : goal.reading-preserved
 reading-preserved g c =

@@ -1,0 +1,70 @@
+//! Files and standard output.
+
+use gate_io::{FileSource, Got, ReadAll, Sink, Source, StdSink, Wrote, read_all};
+use std::alloc::Global;
+use std::fs;
+use std::test::Fail;
+
+/// Six thousand bytes of which no two parts of a read's length are alike.
+fn numbered(alloc: Global) -> Result<Vec<u8>, Fail> {
+    let mut bytes = Vec::new(alloc);
+    for n in 0..1500u32 {
+        bytes.extend_from_slice(&(n * 2_654_435).to_be_bytes())?;
+    }
+    Ok(bytes)
+}
+
+#[test]
+fn a_file_is_read_in_two_reads(rt: HostRuntime) -> Result<(), Fail> {
+    let alloc = rt.alloc();
+    let path = "gate_tests_two_reads";
+    let bytes = numbered(alloc)?;
+    fs::write(&rt, path, bytes.as_slice())?;
+    let mut buf = vec![in alloc; 0u8; 4096]?;
+    let mut file = FileSource::new(rt, String::from_str(alloc, path)?);
+    assert_eq!(rt; file.read(buf.as_mut_slice()), Got::Bytes(4096));
+    assert_eq!(rt; buf.as_slice(), &bytes[..4096]);
+    assert_eq!(rt; file.read(buf.as_mut_slice()), Got::Bytes(1904));
+    assert_eq!(rt; &buf[..1904], &bytes[4096..]);
+    assert_eq!(rt; file.read(buf.as_mut_slice()), Got::End);
+    fs::remove_file(&rt, path)?;
+    Ok(())
+}
+
+#[test]
+fn a_file_is_read_whole(rt: HostRuntime) -> Result<(), Fail> {
+    let alloc = rt.alloc();
+    let path = "gate_tests_whole";
+    let bytes = numbered(alloc)?;
+    fs::write(&rt, path, bytes.as_slice())?;
+    let mut file = FileSource::new(rt, String::from_str(alloc, path)?);
+    let whole = read_all(alloc, &mut file, 6000)?;
+    assert_eq!(rt; whole.as_slice(), bytes.as_slice());
+    let mut file = FileSource::new(rt, String::from_str(alloc, path)?);
+    assert_eq!(rt;
+        read_all(alloc, &mut file, 5999).err(),
+        Some(ReadAll::TooLong)
+    );
+    fs::remove_file(&rt, path)?;
+    Ok(())
+}
+
+#[test]
+fn files_that_give_nothing(rt: HostRuntime) -> Result<(), Fail> {
+    let alloc = rt.alloc();
+    let mut buf = [0u8; 4];
+    let mut empty = FileSource::new(rt, String::from_str(alloc, "/dev/null")?);
+    assert_eq!(rt; empty.read(&mut buf), Got::End);
+    let mut folder = FileSource::new(rt, String::from_str(alloc, "/")?);
+    assert_eq!(rt; folder.read(&mut buf), Got::Failed);
+    let mut missing = FileSource::new(rt, String::from_str(alloc, "/no/such/file")?);
+    assert_eq!(rt; missing.read(&mut buf), Got::Failed);
+    assert_eq!(rt; missing.read(&mut buf), Got::Failed);
+    Ok(())
+}
+
+#[test]
+fn standard_output_takes_bytes(rt: HostRuntime) {
+    let mut out = StdSink::new(rt);
+    assert_eq!(rt; out.write(b"\n"), Wrote::Bytes(1));
+}
