@@ -1,10 +1,9 @@
 ghost use Rattle.std.specs.Prelude.{◌≡◌, ◌<◌, ◌≤◌, [], ◌∷◌, ◌++◌, List, length, false, Ok, OnOk, OnErr};
-ghost use Rattle.fix_fields.specs.Field.{Field, no_field, field_text, has_soh};
+ghost use Rattle.fix_fields.specs.Field.{Field, no_field, has_soh};
 ghost use Rattle.fix_fields.specs.Pairs.{is_data_of};
 
-use crate::reading::SOH;
+use crate::writing::put_field;
 use gate_io::NoMemory;
-use itoa::Buffer;
 use std::alloc::Global;
 use std::marker::Model;
 
@@ -52,7 +51,7 @@ impl Builder {
             → Holds self.new (fields ++ record { tag = tag; value = value.now } ∷ [])) }
         ensures err { OnErr result (self.new ≡ self.old) }
     {
-        push_field(&mut self.text, tag, value)?;
+        put_field(&mut self.text, tag, value)?;
         self.last = tag;
         Ok(())
     }
@@ -66,21 +65,4 @@ impl Builder {
     {
         self.text
     }
-}
-
-/// Writes the text of a field at the end. It asks for all the memory first, so an error changes
-/// nothing.
-fn push_field(text: &mut Vec<u8>, tag: u32, value: &[u8]) -> Result<(), NoMemory>
-    ensures ok { OnOk result (text.new.items ≡ text.old.items
-        ++ field_text (record { tag = tag; value = value.now })) }
-    ensures err { OnErr result (text.new.items ≡ text.old.items) }
-{
-    let mut buffer = Buffer::new();
-    let digits = buffer.format(tag).as_bytes();
-    text.reserve(digits.len() + value.len() + 2)?;
-    text.extend_from_slice(digits)?;
-    text.push(b'=')?;
-    text.extend_from_slice(value)?;
-    text.push(SOH)?;
-    Ok(())
 }

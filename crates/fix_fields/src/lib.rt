@@ -18,6 +18,7 @@ mod reading;
 mod stamp;
 #[cfg(test)]
 mod tests;
+mod writing;
 
 pub use builder::Builder;
 pub use error::FieldError;
@@ -26,3 +27,4 @@ pub use fit::{check_body, is_session_type};
 pub use number::read_number;
 pub use pairs::{data_tag_of, is_paired};
 pub use stamp::{read_stamp, stamp_text};
+pub use writing::put_field;
