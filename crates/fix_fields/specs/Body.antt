@@ -1,5 +1,5 @@
 -- The fields of a body, as a relation.
-use Rattle.std.specs.Prelude.{◌≡◌, ◌≢◌, ℕ, ◌≤◌, true, false, List, [], ◌∷◌, length, Some}
+use Rattle.std.specs.Prelude.{◌≡◌, ◌≢◌, ℕ, ◌≤◌, true, false, List, [], ◌∷◌, ◌++◌, length, Some}
 use Rattle.fix_fields.specs.Field.{Field, no_field, text_of, has_soh}
 use Rattle.fix_fields.specs.Number.{number_of}
 use Rattle.fix_fields.specs.Pairs.{is_data_of}
@@ -31,3 +31,8 @@ AllAfter P before (field ∷ fields) = P before field × AllAfter P field fields
 pub record IsFields (body : List ℕ) (fields : List Field) : Type 0 where
   pub text : body ≡ text_of fields
   pub lawful : AllAfter MayFollow no_field fields
+
+-- the last of the bytes is SOH
+pub record EndsWithSoh (bytes : List ℕ) : Type 0 where
+  pub front : List ℕ
+  pub text : bytes ≡ front ++ 1 ∷ []

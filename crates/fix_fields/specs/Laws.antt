@@ -1,9 +1,11 @@
 -- What holds of the definitions.
-use Rattle.std.specs.Prelude.{◌≡◌, ◌↔◌, ◌⊎◌, ℕ, ◌^◌, ◌<◌, ◌≤◌, false, List, Some, Ok, Err, decimal}
-use Rattle.fix_fields.specs.Body.{IsFields}
+use Rattle.std.specs.Prelude.{◌≡◌, ◌≢◌, ◌↔◌, ◌⊎◌, ℕ, ◌^◌, ◌<◌, ◌≤◌, false, List, [], ◌∷◌, None, Some, Ok, Err, decimal}
+use Rattle.fix_frame.specs.Frame.{IsBody}
+use Rattle.fix_fields.specs.Body.{IsFields, EndsWithSoh}
 use Rattle.fix_fields.specs.Calendar.{Date, IsDate, day_number}
-use Rattle.fix_fields.specs.Field.{Field, has_soh}
+use Rattle.fix_fields.specs.Field.{Field, text_of, has_soh}
 use Rattle.fix_fields.specs.FirstFault.{IsFirstFault}
+use Rattle.fix_fields.specs.Fit.{unfit_at}
 use Rattle.fix_fields.specs.Number.{number_of}
 use Rattle.fix_fields.specs.Reading.{fields_of}
 use Rattle.fix_fields.specs.Stamp.{date_of_day, moment_of, stamp_of, IsStamp}
@@ -56,3 +58,15 @@ abbrev pub TextsArePlain : Type 0
 TextsArePlain =
     ((n : ℕ) → n < 2 ^ 64 → has_soh (decimal n) ≡ false)
     × ((ms : ℕ) → has_soh (stamp_of ms) ≡ false)
+
+-- fields of which the first is a message type are, as text, the body of a frame
+abbrev pub TypedTextsAreBodies : Type 0
+TypedTextsAreBodies = (type : Field) (fields : List Field) → type.tag ≡ 35 → IsBody (text_of (type ∷ fields))
+
+-- a body with bytes that can be read ends with SOH
+abbrev pub ReadableBodiesEnd : Type 0
+ReadableBodiesEnd = (body : List ℕ) (fields : List Field) → fields_of body ≡ Ok fields → body ≢ [] → EndsWithSoh body
+
+-- a body that is fit is the body of a frame
+abbrev pub FitBodiesAreBodies : Type 0
+FitBodiesAreBodies = (body : List ℕ) → unfit_at body ≡ None → IsBody body

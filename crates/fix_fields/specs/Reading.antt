@@ -1,5 +1,5 @@
 -- The fields of a body, read from left to right, or the first fault.
-use Rattle.std.specs.Prelude.{◌≡◌, ℕ, zero, suc, ◌+◌, ◌-◌, ◌==◌, if◌then◌else◌, List, [], ◌∷◌, length, slice_index, take, drop, Option, Some, None, Result, Ok, Err, find}
+use Rattle.std.specs.Prelude.{◌≡◌, ℕ, zero, suc, ◌+◌, ◌-◌, ◌==◌, if◌then◌else◌, List, [], ◌∷◌, length, slice_index, take, drop, Option, Some, None, is_some, Result, Ok, Err, find}
 use Rattle.std.specs.Option.{option_map, option_and_then, ok_or}
 use Rattle.std.specs.Borrow.{Bor}
 use Rattle.fix_fields.specs.Field.{Field, no_field}
@@ -14,7 +14,10 @@ use Rattle.fix_fields.specs.declared.reading.Fault.TheVariants.{NoEquals, BadTag
 abbrev pub lent : Option (Bor (List ℕ) × Bor (List ℕ)) → Option (List ℕ × List ℕ)
 lent parts = option_map (λ p. (p.0.now, p.1.now)) parts
 
--- the same of a value and what follows it, and of a field and what follows it
+-- the same of a tag, of a value and of a field, each with what follows it
+abbrev pub lent_tag : Option (ℕ × Bor (List ℕ)) → Option (ℕ × List ℕ)
+lent_tag front = option_map (λ p. (p.0, p.1.now)) front
+
 abbrev pub lent_value : Result (Bor (List ℕ) × Bor (List ℕ)) faults.Fault → Result (List ℕ × List ℕ) faults.Fault
 lent_value (Ok p) = Ok (p.0.now, p.1.now)
 lent_value (Err fault) = Err fault
@@ -33,6 +36,11 @@ split_at_equals [] = None
 split_at_equals (byte ∷ bytes) =
     if byte == 61 then Some ([], bytes)
     else (if byte == 1 then None else option_map (onto_first byte) (split_at_equals bytes))
+
+-- the tag at the front, and the bytes behind its `=`
+unfoldable pub tag_at : List ℕ → Option (ℕ × List ℕ)
+tag_at bytes =
+    option_and_then (λ parts. option_map (λ tag. (tag, parts.1)) (tag_of parts.0)) (split_at_equals bytes)
 
 -- the bytes before the first SOH, and those behind it
 abbrev pub split_at_soh : List ℕ → Option (List ℕ × List ℕ)
@@ -57,6 +65,10 @@ value_at before tag bytes =
     if is_data_of before.tag tag
     then ok_or (option_and_then (λ n. split_after n bytes) (number_of before.value)) BadDataLength
     else ok_or (split_at_soh bytes) NoEnd
+
+-- what is wrong where no tag with `=` behind it is at the front
+abbrev pub tag_fault : List ℕ → faults.Fault
+tag_fault bytes = if is_some (split_at_equals bytes) then BadTag else NoEquals
 
 -- the field at the front of the bytes, directly behind the field before, and the bytes after it
 unfoldable pub field_at : Field → List ℕ → Result (Field × List ℕ) faults.Fault

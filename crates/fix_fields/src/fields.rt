@@ -1,4 +1,4 @@
-ghost use Rattle.std.specs.Prelude.{◌≡◌, ◌<◌, ◌↔◌, length, IsTrue, IfOk, IfErr, slice_get, option_copied};
+ghost use Rattle.std.specs.Prelude.{◌≡◌, ◌≢◌, ◌<◌, ◌↔◌, [], length, IsTrue, IfOk, OnOk, IfErr, slice_get, option_copied};
 
 use crate::entry::Entry;
 use crate::error::FieldError;
@@ -26,7 +26,7 @@ impl<'a> Model for Fields<'a> {
 }
 
 impl<'a> Fields<'a> {
-    ghost use Rattle.fix_fields.specs.Body.{IsFields};
+    ghost use Rattle.fix_fields.specs.Body.{EndsWithSoh, IsFields};
     ghost use Rattle.fix_fields.specs.Reading.{fields_of, first_value, IsFaultOf};
 
     /// Reads a body from left to right. A value goes up to the next SOH, but for a data field that
@@ -35,6 +35,7 @@ impl<'a> Fields<'a> {
     pub fn read(alloc: Global, body: &'a [u8]) -> Result<Fields<'a>, FieldError>
         ensures ok { IfOk result (λ fields. fields_of body.now ≡ Ok fields) }
         ensures spelled { IfOk result (λ fields. IsFields body.now fields) }
+        ensures end { OnOk result (body.now ≢ [] → EndsWithSoh body.now) }
         ensures fault { IfErr result (λ fault. IsFaultOf fault body.now) }
     {
         let mut entries = Vec::with_capacity(alloc, FIRST_ROOM)?;

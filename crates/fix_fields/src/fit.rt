@@ -1,5 +1,6 @@
 ghost use Rattle.std.specs.Prelude.{◌≡◌, ◌==◌, OnOk, IfErr};
 ghost use Rattle.std.specs.List.{list_any};
+ghost use Rattle.fix_frame.specs.Frame.{IsBody};
 ghost use Rattle.fix_fields.specs.Fit.{unfit_at, unfit_with, is_fit_at, is_session_type, gateway_tags};
 
 use crate::entry::Entry;
@@ -11,6 +12,8 @@ use crate::reading::next_field;
 /// or else the place where the first field begins that isn't fit; for an empty body 0.
 pub fn check_body(body: &[u8]) -> Result<(), usize>
     ensures ok { OnOk result (unfit_at body.now ≡ None) }
+    // What is fit can be put into a frame.
+    ensures body { OnOk result (IsBody body.now) }
     ensures err { IfErr result (λ at. unfit_at body.now ≡ Some at) }
 {
     if body.is_empty() {

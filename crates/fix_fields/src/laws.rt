@@ -1,6 +1,6 @@
 //! Laws of the definitions that the contracts of this crate cite. The functions do nothing.
 
-ghost use Rattle.fix_fields.specs.Laws.{ReadsAsSpelled, FaultsAsFirst, HasOneOfBoth, HasNoTwo, StampsAsSpelled, StampsReadAgain, CountsBothWays, NumbersReadAgain, TextsArePlain};
+ghost use Rattle.fix_fields.specs.Laws.{ReadsAsSpelled, FaultsAsFirst, HasOneOfBoth, HasNoTwo, StampsAsSpelled, StampsReadAgain, CountsBothWays, NumbersReadAgain, TextsArePlain, TypedTextsAreBodies, ReadableBodiesEnd, FitBodiesAreBodies};
 
 /// A body is read as a list of fields just where it is their texts, one after the other, and the
 /// fields are lawful.
@@ -47,4 +47,19 @@ pub fn numbers_read_again()
 /// The text of a number or of a moment has no SOH, so it may be the value of any field.
 pub fn texts_are_plain()
     ensures { TextsArePlain }
+{}
+
+/// Fields of which the first is a message type (35) are, as text, a body that can be put into a frame.
+pub fn typed_texts_are_bodies()
+    ensures { TypedTextsAreBodies }
+{}
+
+/// A body whose fields can be read is empty or ends with SOH.
+pub fn readable_bodies_end()
+    ensures { ReadableBodiesEnd }
+{}
+
+/// A body that may be sent for an application can be put into a frame.
+pub fn fit_bodies_are_bodies()
+    ensures { FitBodiesAreBodies }
 {}

@@ -16,8 +16,6 @@ mod number;
 mod pairs;
 mod reading;
 mod stamp;
-#[cfg(test)]
-mod tests;
 mod writing;
 
 pub use builder::Builder;

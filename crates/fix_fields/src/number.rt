@@ -1,5 +1,5 @@
 ghost use Rattle.std.specs.Prelude.{◌≡◌};
-ghost use Rattle.fix_fields.specs.Number.{number_of, tag_of};
+ghost use Rattle.fix_fields.specs.Number.{number_of};
 
 /// The most digits of a number, leading zeros among them.
 const MOST_DIGITS: usize = 20;
@@ -8,7 +8,7 @@ const MOST_DIGITS: usize = 20;
 const MOST_NUMBER: u64 = 4_294_967_295;
 
 /// The most digits of a tag.
-const MOST_TAG_DIGITS: usize = 9;
+pub(crate) const MOST_TAG_DIGITS: usize = 9;
 
 /// The number that the bytes are: one to twenty digits, leading zeros allowed, with a value of at
 /// most 4,294,967,295.
@@ -29,16 +29,4 @@ pub fn read_number(bytes: &[u8]) -> Option<u32>
         }
     }
     Some(value as u32)
-}
-
-/// The tag that the bytes are: one to nine digits without a leading zero.
-#[tactic(auto, unfolding(crate::specs::Number::tag_of))]
-pub(crate) fn read_tag(bytes: &[u8]) -> Option<u32>
-    ensures { result ≡ tag_of bytes.now }
-{
-    match bytes {
-        [b'0', ..] => None,
-        _ if bytes.len() > MOST_TAG_DIGITS => None,
-        _ => read_number(bytes),
-    }
 }

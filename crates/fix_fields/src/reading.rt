@@ -1,11 +1,11 @@
 ghost use Rattle.std.specs.Prelude.{◌≡◌};
 ghost use Rattle.std.specs.Option.{option_and_then};
 ghost use Rattle.fix_fields.specs.Number.{number_of};
-ghost use Rattle.fix_fields.specs.Reading.{fault_at, field_at, value_at, split_at_equals, split_at_soh, split_after, lent, lent_value, lent_field};
+ghost use Rattle.fix_fields.specs.Reading.{fault_at, field_at, value_at, split_at_equals, split_at_soh, split_after, tag_at, tag_fault, lent, lent_tag, lent_value, lent_field};
 
 use crate::entry::Entry;
 use crate::error::FieldError;
-use crate::number::{read_number, read_tag};
+use crate::number::{MOST_TAG_DIGITS, read_number};
 use crate::pairs::data_tag_of;
 
 /// The byte that closes a field.
@@ -38,18 +38,15 @@ impl Fault {
 
 /// The field at the front of `rest`, directly behind the field `before`, and the bytes after it.
 /// At a body's front `before` has tag 0.
-#[tactic(auto, unfolding(crate::specs::Reading::field_at))]
+#[tactic(auto, using(crate::proofs::Tags::field_at_no_tag))]
 pub(crate) fn next_field<'a>(
     rest: &'a [u8],
     before: &Entry<'a>,
 ) -> Result<(Entry<'a>, &'a [u8]), Fault>
     ensures { lent_field result ≡ field_at before.now rest.now }
 {
-    let Some((tag, tail)) = split_at_equals(rest) else {
-        return Err(Fault::NoEquals);
-    };
-    let Some(tag) = read_tag(tag) else {
-        return Err(Fault::BadTag);
+    let Some((tag, tail)) = split_tag(rest) else {
+        return Err(tag_fault(rest));
     };
     let (value, after) = read_value(before, tag, tail)?;
     if value.is_empty() {
@@ -72,6 +69,37 @@ fn read_value<'a>(
         split_data(before.value(), tail).ok_or(Fault::BadDataLength)
     } else {
         split_at_soh(tail).ok_or(Fault::NoEnd)
+    }
+}
+
+/// The tag at the front, and the bytes behind its `=`; none where no tag with `=` behind it is there.
+#[tactic(auto, unfolding(crate::specs::Reading::tag_at))]
+fn split_tag(rest: &[u8]) -> Option<(u32, &[u8])>
+    ensures { lent_tag result ≡ tag_at rest.now }
+{
+    let mut tag = 0u32;
+    for (i, byte) in rest.iter().enumerate() {
+        if *byte == b'=' {
+            if i == 0 || rest[0] == b'0' {
+                return None;
+            }
+            return Some((tag, &rest[i + 1..]));
+        }
+        if i == MOST_TAG_DIGITS || !byte.is_ascii_digit() {
+            return None;
+        }
+        tag = tag * 10 + (*byte - b'0') as u32;
+    }
+    None
+}
+
+/// What is wrong where no tag with `=` behind it is at the front.
+fn tag_fault(rest: &[u8]) -> Fault
+    ensures { result ≡ tag_fault rest.now }
+{
+    match split_at_equals(rest) {
+        None => Fault::NoEquals,
+        Some(_) => Fault::BadTag,
     }
 }
 

@@ -1,10 +1,12 @@
 -- A frame that is written is a frame, and the cut of it begins with its body.
-use Rattle.std.proofs.Common.{◌≡◌, ℕ, ◌+◌, ◌/◌, ◌%◌, ◌^◌, ◌≤◌, ◌<◌, Bool, true, cond, List, ◌++◌, length, decimal, Some, refl, ap, ◌∙◌, arith, rules, drop_at, eq-eqb, le-leb}
-use Rattle.std.proofs.lemmas.Bool.{and_from}
+use Rattle.std.proofs.Common.{◌≡◌, ℕ, ◌+◌, ◌/◌, ◌%◌, ◌^◌, ◌≤◌, ◌<◌, Bool, true, cond, List, ◌++◌, length, decimal, Some, refl, ap, ◌∙◌, arith, rules, drop_at, eq-eqb, le-leb, inl, inr}
+use Rattle.std.proofs.lemmas.Bool.{and_from, cases_lt}
 use Rattle.std.proofs.lemmas.Fmt.{digits_decimal, digits_value-decimal, length-decimal-le, decimal_nonempty}
-use Rattle.std.proofs.lemmas.Str.Parse.{IsNumeralModel, numerals_by_fold}
+use Rattle.std.proofs.lemmas.Str.Parse.{IsNumeralModel, numerals_by_fold, digits_value_short}
+use Rattle.std.specs.Prelude.{◌↔◌}
 use Rattle.std.specs.Char.{is_ascii_digit}
 use Rattle.std.specs.List.{list_all}
+use Rattle.fix_frame.specs.declared.layout.TheConstants.{FRAMING, LONGEST_BODY, LONGEST_FRAME}
 use Rattle.fix_frame.specs.Frame.{number_after, number_of, IsBody, IsCheckField, IsShaped, IsFrame, checksum, three_digits, frame_of}
 use Rattle.fix_frame.specs.Cut.{CutPiece, good, garbled, found_in, piece_of, piece_at, standing_at, whole, onto, cut}
 use Rattle.fix_frame.proofs.Standing.{length-stretch, standing-shaped}
@@ -75,3 +77,37 @@ module _ (limit : ℕ) (body : List ℕ) (is_body : IsBody body) (short : length
 
 pub length-frame : (body : List ℕ) → length (frame_of body) ≡ 20 + length (decimal (length body)) + length body
 length-frame body = length-stretch (decimal (length body)) body (three_digits (checksum (decimal (length body)) body)) refl
+
+-- ---- how long a frame is
+
+-- a length of at most LONGEST_FRAME has at most five digits
+few_digits : (n : ℕ) → n ≤ LONGEST_FRAME → length (decimal n) ≤ 5
+few_digits n most = length-decimal-le 5 n (omega arith) (omega arith) (omega arith)
+
+pub framing : (body : List ℕ) → length body ≤ LONGEST_FRAME → length (frame_of body) ≤ length body + FRAMING
+framing body most = omega (arith, length-frame body, few_digits (length body) most)
+
+-- and with more bytes than LONGEST_BODY it has five
+five_digits : (n : ℕ) → LONGEST_BODY < n → n ≤ LONGEST_FRAME → 5 ≤ length (decimal n)
+five_digits n large most =
+    elim (cases_lt 4 (length (decimal n))) [
+      | inl many ↦ many
+      | inr few ↦
+          let small = digits_value_short own (decimal n) 4 (digits_decimal own n (omega arith)) few in
+          absurd (omega (arith, small, digits_value-decimal own n (omega arith)))
+    ]
+
+longest-to : (body : List ℕ) → length (frame_of body) ≤ LONGEST_FRAME → length body ≤ LONGEST_BODY
+longest-to body short =
+    let within : length body ≤ LONGEST_FRAME = omega (arith, length-frame body) in
+    elim (cases_lt LONGEST_BODY (length body)) [
+      | inl large ↦ absurd (omega (arith, length-frame body, five_digits (length body) large within))
+      | inr small ↦ small
+    ]
+
+longest-from : (body : List ℕ) → length body ≤ LONGEST_BODY → length (frame_of body) ≤ LONGEST_FRAME
+longest-from body small = omega (arith, framing body (omega arith))
+
+-- just the bodies of at most LONGEST_BODY bytes have a frame that isn't too long
+pub longest : (body : List ℕ) → (length (frame_of body) ≤ LONGEST_FRAME) ↔ (length body ≤ LONGEST_BODY)
+longest body = (longest-to body, longest-from body)

@@ -3,6 +3,7 @@ use Rattle.std.specs.Prelude.{◌≡◌, ◌≤◌, ℕ, zero, suc, ◌+◌, ◌
 use Rattle.std.specs.Char.{is_ascii_digit}
 use Rattle.std.specs.List.{list_any}
 use Rattle.std.specs.Option.{option_map_or}
+use Rattle.fix_frame.specs.declared.layout.TheConstants.{MOST_DIGITS}
 use Rattle.fix_frame.specs.Frame.{head, number_of, stretch_of, checksum, IsBody}
 
 -- a piece: a good frame's body, or so many garbled bytes
@@ -47,7 +48,7 @@ digits_at (suc most) (b ∷ bytes) = if is_ascii_digit b then b ∷ digits_at mo
 
 -- a length field of so many digits and this number can stand in a stretch of at most limit bytes
 abbrev pub fits : ℕ → ℕ → ℕ → Bool
-fits limit count number = nat_le 1 count && (nat_le count 9 && (nat_le 4 number && nat_le (20 + count + number) limit))
+fits limit count number = nat_le 1 count && (nat_le count MOST_DIGITS && (nat_le 4 number && nat_le (20 + count + number) limit))
 
 -- the digits so far can become such a field: they are one, or one more digit makes them one
 abbrev pub can_become : ℕ → ℕ → ℕ → Bool
@@ -66,7 +67,7 @@ behind_field limit field (b ∷ bytes) = if (b == 1) && fits limit (length field
 
 -- the same, told from where the length field begins
 unfoldable pub behind_start : ℕ → List ℕ → Standing
-behind_start limit bytes = behind_field limit (digits_at 9 bytes) (drop (length (digits_at 9 bytes)) bytes)
+behind_start limit bytes = behind_field limit (digits_at MOST_DIGITS bytes) (drop (length (digits_at MOST_DIGITS bytes)) bytes)
 
 -- what stands at the beginning of the bytes, where a frame has at most limit bytes
 unfoldable pub standing_at : ℕ → List ℕ → Standing

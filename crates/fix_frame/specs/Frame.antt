@@ -2,6 +2,7 @@
 use Rattle.std.specs.Prelude.{◌≡◌, ℕ, ◌+◌, ◌-◌, ◌*◌, ◌/◌, ◌%◌, ◌<◌, ◌≤◌, IsTrue, List, [], ◌∷◌, ◌++◌, length, codes, decimal, sum}
 use Rattle.std.specs.Char.{is_ascii_digit}
 use Rattle.std.specs.List.{list_all}
+use Rattle.fix_frame.specs.declared.layout.TheConstants.{MOST_DIGITS}
 
 -- what stands before the digits of a body's length: `8=FIX.4.4|9=`
 abbrev pub head : List ℕ
@@ -29,7 +30,7 @@ pub record IsBody (body : List ℕ) : Type 0 where
 pub record IsLengthField (field : List ℕ) (n : ℕ) : Type 0 where
   pub digits : AreDigits field
   pub least : 1 ≤ length field
-  pub most : length field ≤ 9
+  pub most : length field ≤ MOST_DIGITS
   pub number : number_of field ≡ n
 
 -- three digits

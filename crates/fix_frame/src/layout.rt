@@ -5,6 +5,12 @@ ghost use Rattle.std.specs.Prelude.{◌≡◌, ◌%◌, sum};
 /// The most bytes that a frame has, read or written.
 pub const LONGEST_FRAME: usize = 65_536;
 
+/// The most bytes that a frame of at most `LONGEST_FRAME` bytes has beside its body.
+pub const FRAMING: usize = 25;
+
+/// The most bytes of a body whose frame isn't too long.
+pub const LONGEST_BODY: usize = LONGEST_FRAME - FRAMING;
+
 /// The least limit that a `Cutter` takes.
 pub const LEAST_LIMIT: usize = 32;
 

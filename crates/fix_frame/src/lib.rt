@@ -11,13 +11,8 @@ pub mod laws;
 mod layout;
 mod look;
 mod ring;
-mod whole;
 mod write;
 
 pub use cutter::{Cutter, Piece};
-pub use layout::{LEAST_LIMIT, LEAST_ROOM, LONGEST_FRAME};
-pub use whole::{OwnedPiece, cut_parts, cut_whole};
-pub use write::{FrameError, is_body, write_frame};
-
-#[cfg(test)]
-mod tests;
+pub use layout::{FRAMING, LEAST_LIMIT, LEAST_ROOM, LONGEST_BODY, LONGEST_FRAME};
+pub use write::{FrameError, frame_len, is_body, write_frame};

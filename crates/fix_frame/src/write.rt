@@ -6,7 +6,8 @@ ghost use Rattle.fix_frame.specs.Frame.{IsBody, frame_of, three_digits};
 ghost use Rattle.fix_frame.specs.Cut.{cut, good, onto};
 ghost use Rattle.fix_frame.specs.Printed.{text_of};
 
-use crate::layout::{BODY_END, BODY_START, HEAD, LONGEST_FRAME, SOH, TRAILER, checksum};
+use crate::layout::{BODY_END, BODY_START, HEAD, LONGEST_BODY, LONGEST_FRAME, SOH, TRAILER, checksum};
+use itoa::Buffer;
 use std::alloc::{AllocError, AllocFailed, Global};
 use std::error::Error;
 use std::fmt;
@@ -59,6 +60,23 @@ pub fn is_body(bytes: &[u8]) -> bool
         && bytes[bytes.len() - 1] == SOH
 }
 
+/// How many bytes the frame of a body has.
+pub fn frame_len(body: &[u8]) -> usize
+    ensures { result ≡ length (frame_of body.now) }
+{
+    let mut buffer = Buffer::new();
+    len_with(buffer.format(body.len()), body)
+}
+
+/// The same, where these are the digits of the body's length.
+fn len_with(digits: &str, body: &[u8]) -> usize
+    requires digits { digits.now ≡ decimal (length body.now) }
+    requires short { length digits.now ≤ 40 }
+    ensures { result ≡ length (frame_of body.now) }
+{
+    HEAD.len() + digits.len() + 1 + body.len() + TRAILER
+}
+
 /// The frame of a body: `8=FIX.4.4|9=len|body10=ccc|`, where `|` is byte 1, `len` is the body's
 /// length without leading zeros, and `ccc` is the sum of all bytes before `10=`, modulo 256, in
 /// three digits. FIX 4.4, volume 1, "Message format".
@@ -66,23 +84,32 @@ pub fn write_frame(alloc: Global, body: &[u8]) -> Result<Vec<u8>, FrameError>
     requires { IsBody body.now }
     ensures frame { IfOk result (λ frame. frame.items ≡ frame_of body.now) }
     ensures too_long { (n : ℕ) → (result ≡ Err (FrameError.TooLong n)) ↔ ((n ≡ length (frame_of body.now)) × (LONGEST_FRAME < n)) }
+    ensures fits { length body.now ≤ LONGEST_BODY → (n : ℕ) → result ≢ Err (FrameError.TooLong n) }
     // Whatever bytes stand behind it, the cut of them begins with this body.
     ensures cut { IfOk result (λ frame. (more : List ℕ) → cut LONGEST_FRAME (frame.items ++ more) ≡ onto (good body.now) (cut LONGEST_FRAME more)) }
 {
-    let length = HEAD.len() + decimal_len(body.len()) + 1 + body.len() + TRAILER;
+    let mut buffer = Buffer::new();
+    let digits = buffer.format(body.len());
+    let length = len_with(digits, body);
     if length > LONGEST_FRAME {
         return Err(FrameError::TooLong { length });
     }
-    Ok(framed(alloc, body, length)?)
+    Ok(framed(alloc, digits, body, length)?)
 }
 
-/// The frame of a body, in a vector with room for `length` bytes.
-fn framed(alloc: Global, body: &[u8], length: usize) -> Result<Vec<u8>, AllocError>
+/// The frame of a body, whose length has these digits, in a vector with room for so many bytes.
+fn framed(
+    alloc: Global,
+    digits: &str,
+    body: &[u8],
+    room: usize,
+) -> Result<Vec<u8>, AllocError>
+    requires { digits.now ≡ decimal (length body.now) }
     ensures { IfOk result (λ frame. frame.items ≡ frame_of body.now) }
 {
-    let mut frame = Vec::with_capacity(alloc, length)?;
+    let mut frame = Vec::with_capacity(alloc, room)?;
     frame.extend_from_slice(HEAD)?;
-    push_decimal(&mut frame, body.len())?;
+    frame.extend_from_slice(digits.as_bytes())?;
     frame.push(SOH)?;
     frame.extend_from_slice(body)?;
     let sum = checksum(&frame);
@@ -90,29 +117,6 @@ fn framed(alloc: Global, body: &[u8], length: usize) -> Result<Vec<u8>, AllocErr
     frame.extend_from_slice(&three_digits(sum))?;
     frame.push(SOH)?;
     Ok(frame)
-}
-
-/// How many digits the number has.
-fn decimal_len(number: usize) -> usize
-    ensures digits { result ≡ length (decimal number) }
-    ensures small { result ≤ 20 }
-{
-    if number < 10 {
-        1
-    } else {
-        decimal_len(number / 10) + 1
-    }
-}
-
-/// Writes the number's digits at the end.
-fn push_decimal(text: &mut Vec<u8>, number: usize) -> Result<(), AllocError>
-    ensures { OnOk result (text.new.items ≡ text.old.items ++ decimal number) }
-{
-    if number >= 10 {
-        push_decimal(text, number / 10)?;
-    }
-    text.push(b'0' + (number % 10) as u8)?;
-    Ok(())
 }
 
 /// Three decimal digits.

@@ -1,5 +1,6 @@
 use Rattle.std.proofs.Common.{◌≡◌, ◌-◌, ◌<◌, length, sym, ◌∙◌, arith}
 use Rattle.std.proofs.lemmas.Bool.Decides.{nat_tests}
+use Rattle.fix_fields.proofs.Ended.{fit_bodies_are_bodies}
 use Rattle.fix_fields.proofs.Unfit.{check_start, check_field, check_fault, check_end}
 use Rattle.fix_fields.proofs.WholeBody.{shorter}
 use Rattle.fix_fields.proofs.fit.check_body.Goals as goal
@@ -39,3 +40,6 @@ pub returns-in-None-clause-ok : goal.returns-in-None-clause-ok
 returns-in-None-clause-ok c =
     let none : length c.loop-before.rest.now ≡ 0 = grind (arith, nat_tests) in
     check_end _ _ _ _ _ _ none c.loop-before.invariant.answer ∙ c.in-None.is
+
+pub returns-in-None-clause-body : goal.returns-in-None-clause-body
+returns-in-None-clause-body c = fit_bodies_are_bodies c.args.body.now (returns-in-None-clause-ok c)

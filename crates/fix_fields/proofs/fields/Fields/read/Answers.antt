@@ -1,6 +1,7 @@
 use Rattle.std.proofs.Common.{◌≡◌, ◌<◌, length, sym, arith}
 use Rattle.std.proofs.lemmas.Bool.Decides.{nat_tests}
 use Rattle.fix_fields.proofs.WholeBody.{fields_of_start, reading_field, reading_fault, reading_end, fault_is, shorter, IsFields-from}
+use Rattle.fix_fields.proofs.Ended.{readable_bodies_end}
 use Rattle.fix_fields.proofs.fields.Fields.read.Goals as goal
 
 pub loop-before-init : goal.loop-before-init
@@ -36,3 +37,6 @@ pub returns-clause-spelled : goal.returns-clause-spelled
 returns-clause-spelled c =
     let none : length c.loop-before.rest.now ≡ 0 = grind (arith, nat_tests) in
     IsFields-from _ _ (reading_end _ _ _ _ _ none c.loop-before.invariant.read)
+
+pub returns-clause-end : goal.returns-clause-end
+returns-clause-end c = readable_bodies_end _ _ (returns-clause-ok c)

@@ -1,4 +1,0 @@
-use Rattle.fix_frame.proofs.write.+decimal_len.Given as goal
-
-abbrev pub decreases-decimal_len : goal.decreases-decimal_len
-decreases-decimal_len l = l.number
