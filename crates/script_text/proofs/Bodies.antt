@@ -1,12 +1,11 @@
 -- When bytes are the body of a frame.
-use Rattle.std.proofs.Common.{◌≡◌, ℕ, ◌<◌, true, false, List, [], ◌∷◌, ◌++◌, length, take, drop, refl, sym, ap, ◌∙◌, arith, codes, nat_le, subst, eqb-true}
+use Rattle.std.proofs.Common.{◌≡◌, ℕ, true, false, List, [], ◌∷◌, ◌++◌, length, take, drop, refl, sym, ap, ◌∙◌, codes, nat_le, subst, eqb-true}
 use Rattle.std.proofs.lemmas.Bool.{and_parts}
-use Rattle.std.proofs.lemmas.Bool.Decides.{nat_tests}
 use Rattle.std.proofs.lemmas.List.{take-append-drop}
 use Rattle.std.proofs.lemmas.Slice.Eq.{bytes_eq-Decides}
 use Rattle.fix_frame.specs.Frame.{IsBody, frame_of}
-use Rattle.fix_frame.proofs.Written.{length-frame}
-use Rattle.script_text.specs.Fields.{ends_field, is_body_text, is_framed}
+use Rattle.fix_frame.specs.declared.layout.TheConstants.{LONGEST_FRAME}
+use Rattle.script_text.specs.Args.{ends_field, is_body_text, is_framed}
 
 ends_field-split : (xs : List ℕ) → ends_field xs ≡ true → (m : List ℕ) × (xs ≡ m ++ 1 ∷ [])
 ends_field-split [] e = cc
@@ -35,13 +34,7 @@ pub framed_not : (bytes : List ℕ) → is_body_text bytes ≡ false → false �
 unfolding is_framed
 framed_not bytes e = rw e refl
 
-pub framed_long : (bytes : List ℕ) → 65536 < length bytes → false ≡ is_framed bytes
-unfolding is_framed
-framed_long bytes long =
-    let large : 65536 < length (frame_of bytes) = omega (arith, length-frame bytes) in
-    grind (arith, nat_tests)
-
-pub framed_is : (bytes : List ℕ) → IsBody bytes → nat_le (length (frame_of bytes)) 65536 ≡ is_framed bytes
+pub framed_is : (bytes : List ℕ) → IsBody bytes → nat_le (length (frame_of bytes)) LONGEST_FRAME ≡ is_framed bytes
 unfolding is_framed
 framed_is bytes h = rw (is_body_text-from bytes h) refl
 

@@ -8,7 +8,7 @@ use Rattle.std.specs.Prelude.{nat_lt, if◌then◌else◌}
 use Rattle.script_text.specs.Grammar.{line_of}
 use Rattle.script_text.specs.Lawful.{AreNames, IsLawful, IsLawfulConfig, StepFits, StepsFit, line_numbers}
 use Rattle.script_text.specs.Meaning.{lines_of, read_on, script_from, script_of}
-use Rattle.script_text.specs.SoFar.{SoFar, configured, connects_with, moment_with, no_config, no_lines, said_with, setting_with, step_with}
+use Rattle.script_text.specs.SoFar.{SoFar, config_with, connects_with, moment_with, no_config, no_lines, said_with, setting_with, step_with}
 use Rattle.script_text.specs.declared.config.Config.{Config}
 use Rattle.script_text.specs.declared.config.Names.{Names}
 use Rattle.script_text.specs.declared.kinds.ScriptError.TheVariants.{Fault}
@@ -45,7 +45,7 @@ not-true : (b : Bool) → b ≡ true → not b ≡ true → ⊥
 not-true true h k = cc
 not-true false h k = cc
 
-lawful-configured : (serving : Bool) (config : Config) (what : Setting) → IsLawfulConfig serving config → SettingFits serving config.names what → IsLawfulConfig serving (configured what config)
+lawful-configured : (serving : Bool) (config : Config) (what : Setting) → IsLawfulConfig serving config → SettingFits serving config.names what → IsLawfulConfig serving (config_with what config)
 lawful-configured serving config (setting.Session names) h fits =
     record {
       few = omega (arith, fits.0, length_push config.names names);

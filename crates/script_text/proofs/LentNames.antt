@@ -1,6 +1,6 @@
 -- Parts of lent words are the parts of the words.
 use Rattle.std.proofs.Common.{◌≡◌, ℕ, List, Option, Some, None, Result, Ok, Err, Bor, refl}
-use Rattle.script_text.specs.Fields.{ends, lent_word}
+use Rattle.script_text.specs.Args.{ends, lent_word}
 use Rattle.script_text.specs.Kinds.{as_part, both}
 use Rattle.script_text.specs.Lent.{lent_names, names_of}
 use Rattle.script_text.specs.declared.kinds.ScriptKind.{ScriptKind}

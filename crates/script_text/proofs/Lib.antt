@@ -12,4 +12,4 @@ pub mod PartFacts
 pub mod PrintedTexts
 pub mod Texts
 pub mod WholeLines
-pub mod Numbered
+pub mod ByPlace

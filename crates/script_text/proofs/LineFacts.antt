@@ -2,7 +2,7 @@
 use Rattle.std.proofs.Common.{◌≡◌, ◌≢◌, ℕ, ◌<◌, ◌≤◌, Bool, true, false, not, cond, List, length, Option, Some, None, Ok, All, IsTrue, nat_lt, ap, ◌∙◌, arith, subst}
 use Rattle.std.proofs.lemmas.Bool.Decides.{nat_tests}
 use Rattle.std.specs.List.{list_all, list_any}
-use Rattle.script_text.specs.Fields.{body_at, ends, keyword_at, later, moment_at, name_at, number_at, number_below, number_within, text_at}
+use Rattle.script_text.specs.Args.{body_at, ends, keyword_at, later, moment_at, name_at, number_at, number_below, number_within, text_at}
 use Rattle.script_text.specs.Grammar.{act_line, act_named, act_worded, bytes_line, config_line, connect_line, connection_and_number_line, connection_line, event_line, frame_line, hand_line, is_here, is_skipped, lib_line, limit_line, limit_named, limit_worded, line_of, moment_line, names_line, new_names, no_steps, opened_line, option_line, read_line, release_line, request_line, same_names, send_line, session_line}
 use Rattle.script_text.specs.Kinds.{◌>>=◌, both, demand}
 use Rattle.script_text.specs.Lawful.{ActFits, AreNames, StepFits}

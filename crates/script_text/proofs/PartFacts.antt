@@ -10,7 +10,7 @@ use Rattle.fix_fields.specs.Stamp.{moment_of}
 use Rattle.fix_fields.proofs.Days.{day_number_bound}
 use Rattle.fix_fields.proofs.Stamps.{IsStamp-from}
 use Rattle.fix_frame.specs.Frame.{IsBody, frame_of}
-use Rattle.script_text.specs.Fields.{body_at, ends, is_body_text, is_framed, later, moment_at, name_at, number_at, number_below, number_line, number_within, text_at, word_at}
+use Rattle.script_text.specs.Args.{body_at, ends, is_body_text, is_framed, later, moment_at, name_at, number_at, number_below, number_line, number_within, text_at, word_at}
 use Rattle.script_text.specs.Grammar.{same_names}
 use Rattle.script_text.specs.Kinds.{◌>>=◌, as_part, both, demand}
 use Rattle.script_text.specs.Words.{is_name}

@@ -7,8 +7,10 @@ use Rattle.std.specs.Str.{bytes_eq}
 use Rattle.script_text.specs.Kinds.{◌>>=◌, as_part, demand, both, joined}
 use Rattle.script_text.specs.Printed.{is_printable}
 use Rattle.script_text.specs.Words.{word_in, behind_word, limit_word_of, lib_word_of, opening_of}
-use Rattle.script_text.specs.Fields.{ends, keyword_at, later, number_at, number_within, number_line, number_below, moment_at, name_at, text_at, body_at}
+use Rattle.script_text.specs.Args.{ends, keyword_at, later, number_at, number_within, number_line, number_below, moment_at, name_at, text_at, body_at}
 use Rattle.script_text.specs.SoFar.{SoFar}
+use Rattle.gate_io.specs.declared.wires.TheConstants.{MOST_CONNECTIONS}
+use Rattle.script_text.specs.declared.config.TheConstants.{MOST_ASKS, MOST_LEASES, MOST_SENDS, MOST_SESSIONS}
 use Rattle.script_text.specs.declared.config.Names.{Names}
 use Rattle.script_text.specs.declared.kinds.ScriptKind.{ScriptKind}
 use Rattle.script_text.specs.declared.kinds.ScriptKind.TheVariants.{BadByte, UnknownWord, BadShape, OutOfRange, Misplaced, Backward}
@@ -46,17 +48,17 @@ same_names a b = bytes_eq a.us b.us && bytes_eq a.them b.them
 abbrev pub new_names : List Names → Names → Result Names ScriptKind
 new_names before names = if list_any (λ other. same_names other names) before then Err OutOfRange else Ok names
 
--- `US THEM`, another pair than those before, where these aren't 64 yet
+-- `US THEM`, another pair than those before, where these aren't the most yet
 unfoldable pub session_line : List Names → Option (List ℕ) → Result Setting ScriptKind
 session_line before args =
-    demand (nat_lt (length before) 64) OutOfRange (as_part setting.Session (names_line args >>= new_names before))
+    demand (nat_lt (length before) MOST_SESSIONS) OutOfRange (as_part setting.Session (names_line args >>= new_names before))
 
 -- what follows the word of a limit
 unfoldable pub limit_line : LimitWord → Option (List ℕ) → Result Setting ScriptKind
 limit_line limit_word.Lane args = as_part setting.Lane (number_line 1 16 args)
-limit_line limit_word.Leases args = as_part setting.Leases (number_line 1 16_777_215 args)
-limit_line limit_word.Sends args = as_part setting.Sends (number_line 1 4_294_967_295 args)
-limit_line limit_word.Asks args = as_part setting.Asks (number_line 1 4_294_967_295 args)
+limit_line limit_word.Leases args = as_part setting.Leases (number_line 1 MOST_LEASES args)
+limit_line limit_word.Sends args = as_part setting.Sends (number_line 1 MOST_SENDS args)
+limit_line limit_word.Asks args = as_part setting.Asks (number_line 1 MOST_ASKS args)
 limit_line limit_word.Timeout args = as_part setting.Timeout (number_line 1 3_600_000 args)
 limit_line limit_word.Hold args = as_part setting.Hold (number_line 1 3_600_000 args)
 
@@ -77,7 +79,7 @@ unfoldable pub config_line : Bool → List Names → ConfigWord → Option (List
 config_line serving before config_word.Session args = session_line before args
 config_line serving before config_word.Libraries args = as_part setting.Libraries (number_line 0 16 args)
 config_line serving before config_word.Connections args =
-    demand serving Misplaced (as_part setting.Connections (number_line 0 1_024 args))
+    demand serving Misplaced (as_part setting.Connections (number_line 0 MOST_CONNECTIONS args))
 config_line serving before config_word.Limit args = option_line args
 
 -- Lines of `replay`. C is the number of an earlier connection.
@@ -96,9 +98,9 @@ unfoldable pub moment_line : ℕ → Option (List ℕ) → Result ℕ ScriptKind
 moment_line present args =
     ends (later args) (moment_at args >>= λ now. if nat_lt now present then Err Backward else Ok now)
 
--- nothing, where the number of connections isn't 1,024 yet
+-- nothing, where the connections aren't the most yet
 unfoldable pub connect_line : ℕ → Option (List ℕ) → Result Step ScriptKind
-connect_line connects args = ends args (demand (nat_lt connects 1_024) OutOfRange (Ok step.Connect))
+connect_line connects args = ends args (demand (nat_lt connects MOST_CONNECTIONS) OutOfRange (Ok step.Connect))
 
 -- `C TEXT`
 unfoldable pub bytes_line : ℕ → Option (List ℕ) → Result Step ScriptKind

@@ -4,6 +4,10 @@ use Rattle.std.specs.List.{AllPairs}
 use Rattle.fix_frame.specs.Frame.{IsBody, frame_of}
 use Rattle.script_text.specs.SoFar.{connects_with, moment_with}
 use Rattle.script_text.specs.Words.{is_name}
+use Rattle.gate_io.specs.declared.wires.TheConstants.{MOST_CONNECTIONS}
+use Rattle.gate_io.specs.declared.clocks.TheConstants.{LAST_MOMENT}
+use Rattle.fix_frame.specs.declared.layout.TheConstants.{LONGEST_FRAME}
+use Rattle.script_text.specs.declared.config.TheConstants.{MOST_ASKS, MOST_LEASES, MOST_SENDS, MOST_SESSIONS}
 use Rattle.script_text.specs.declared.config.Config.{Config}
 use Rattle.script_text.specs.declared.config.Names.{Names}
 use Rattle.script_text.specs.declared.steps.LibStep.{LibStep}
@@ -18,16 +22,16 @@ AreNames names = IsTrue (is_name names.us) × IsTrue (is_name names.them)
 
 -- each number is in its range, and no two sessions have the same pair of names
 pub record IsLawfulConfig (serving : Bool) (config : Config) : Type 0 where
-  pub few : length config.names ≤ 64
+  pub few : length config.names ≤ MOST_SESSIONS
   pub named : All AreNames config.names
   pub distinct : AllPairs (λ (a b : Names). a ≢ b) config.names
   pub libraries : config.libraries ≤ 16
-  pub connections : config.connections ≤ 1_024
+  pub connections : config.connections ≤ MOST_CONNECTIONS
   pub replaying : IsTrue (not serving) → config.connections ≡ 0
   pub lane : (1 ≤ config.lane) × (config.lane ≤ 16)
-  pub leases : (1 ≤ config.leases) × (config.leases ≤ 16_777_215)
-  pub sends : (1 ≤ config.sends) × (config.sends ≤ 4_294_967_295)
-  pub asks : (1 ≤ config.asks) × (config.asks ≤ 4_294_967_295)
+  pub leases : (1 ≤ config.leases) × (config.leases ≤ MOST_LEASES)
+  pub sends : (1 ≤ config.sends) × (config.sends ≤ MOST_SENDS)
+  pub asks : (1 ≤ config.asks) × (config.asks ≤ MOST_ASKS)
   pub timeout : (1 ≤ config.timeout) × (config.timeout ≤ 3_600_000)
   pub hold : (1 ≤ config.hold) × (config.hold ≤ 3_600_000)
 
@@ -40,11 +44,11 @@ ActFits serving _ = Unit {0}
 -- a step that the command has, behind steps with so many connections and this present moment
 abbrev pub StepFits : Bool → ℕ → ℕ → ℕ → Step → Type 0
 StepFits serving libraries connects present (step.At now) =
-    IsTrue (not serving) × (present ≤ now) × (now ≤ 253_402_300_799_999)
-StepFits serving libraries connects present step.Connect = IsTrue (not serving) × (connects < 1_024)
+    IsTrue (not serving) × (present ≤ now) × (now ≤ LAST_MOMENT)
+StepFits serving libraries connects present step.Connect = IsTrue (not serving) × (connects < MOST_CONNECTIONS)
 StepFits serving libraries connects present (step.Bytes c bytes) = IsTrue (not serving) × (c < connects)
 StepFits serving libraries connects present (step.Frame c body) =
-    IsTrue (not serving) × (c < connects) × IsBody body × (length (frame_of body) ≤ 65_536)
+    IsTrue (not serving) × (c < connects) × IsBody body × (length (frame_of body) ≤ LONGEST_FRAME)
 StepFits serving libraries connects present (step.Finish c) = IsTrue (not serving) × (c < connects)
 StepFits serving libraries connects present (step.FailRead c) = IsTrue (not serving) × (c < connects)
 StepFits serving libraries connects present (step.FailWrite c n) = IsTrue (not serving) × (c < connects)

@@ -6,6 +6,7 @@ use Rattle.script_text.specs.Meaning.{lines_of, script_of}
 use Rattle.script_text.specs.Printed.{is_printable, printed, meant}
 use Rattle.script_text.specs.SoFar.{SoFar, no_lines, said_with}
 use Rattle.script_text.specs.declared.kinds.ScriptError.TheVariants.{Fault}
+use Rattle.script_text.specs.declared.reading.TheConstants.{LONGEST_SCRIPT}
 use Rattle.script_text.specs.declared.kinds.ScriptKind.{ScriptKind}
 use Rattle.script_text.specs.declared.kinds.ScriptKind.TheVariants.{TooLong}
 use Rattle.script_text.specs.declared.lines.Line.{Line}
@@ -49,7 +50,7 @@ said_by serving n said (text ∷ texts) =
 -- no line of the text has a fault, and together they say the script
 pub record IsRead (serving : Bool) (text : List ℕ) (script : Script) : Type 0 where
   pub said : SoFar
-  pub short : length text ≤ 16_777_216
+  pub short : length text ≤ LONGEST_SCRIPT
   pub lines : said_by serving 1 no_lines (lines_of text) ≡ Some said
   pub whole : said.script ≡ script
 
@@ -59,7 +60,7 @@ pub record IsFirstFault (serving : Bool) (text : List ℕ) (n : ℕ) (kind : Scr
   pub line : List ℕ
   pub behind : List (List ℕ)
   pub said : SoFar
-  pub short : length text ≤ 16_777_216
+  pub short : length text ≤ LONGEST_SCRIPT
   pub cut : lines_of text ≡ before ++ line ∷ behind
   pub number : n ≡ 1 + length before
   pub lawful : said_by serving 1 no_lines before ≡ Some said
@@ -79,4 +80,4 @@ FaultsAreFirst =
 abbrev pub LongTextsAreLineZero : Type 0
 LongTextsAreLineZero =
     (serving : Bool) (text : List ℕ) (kind : ScriptKind)
-    → (script_of serving text ≡ Err (Fault 0 kind)) ↔ ((kind ≡ TooLong) × (16_777_216 < length text))
+    → (script_of serving text ≡ Err (Fault 0 kind)) ↔ ((kind ≡ TooLong) × (LONGEST_SCRIPT < length text))

@@ -2,7 +2,7 @@
 pub mod Kinds
 pub mod Printed
 pub mod Words
-pub mod Fields
+pub mod Args
 pub mod SoFar
 pub mod Grammar
 pub mod Meaning

@@ -2,6 +2,7 @@
 use Rattle.std.specs.Prelude.{◌≡◌, ℕ, suc, Bool, ◌==◌, nat_lt, if◌then◌else◌, List, [], ◌∷◌, length, Result, Ok, Err}
 use Rattle.script_text.specs.SoFar.{SoFar, no_lines, said_with}
 use Rattle.script_text.specs.Grammar.{line_of}
+use Rattle.script_text.specs.declared.reading.TheConstants.{LONGEST_SCRIPT}
 use Rattle.script_text.specs.declared.kinds.ScriptError.{ScriptError}
 use Rattle.script_text.specs.declared.kinds.ScriptError.TheVariants.{OutOfMemory, Fault}
 use Rattle.script_text.specs.declared.kinds.ScriptKind.{ScriptKind}
@@ -34,7 +35,7 @@ script_from serving n said (text ∷ texts) =
 -- line that is outside the grammar, and what is wrong with it.
 unfoldable pub script_of : Bool → List ℕ → Result Script ScriptError
 script_of serving text =
-    if nat_lt 16_777_216 (length text) then Err (Fault 0 TooLong) else script_from serving 1 no_lines (lines_of text)
+    if nat_lt LONGEST_SCRIPT (length text) then Err (Fault 0 TooLong) else script_from serving 1 no_lines (lines_of text)
 
 -- the text is outside the grammar with this fault; want of memory is no fault of the text's
 abbrev pub IsFaultOf : Bool → List ℕ → ScriptError → Type 0

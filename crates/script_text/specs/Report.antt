@@ -2,7 +2,7 @@
 use Rattle.std.specs.Prelude.{ℕ, ◌+◌, ◌-◌, max, List, [], ◌∷◌, ◌++◌, length, decimal, codes, slice_index_or, Option, None, Some}
 use Rattle.std.specs.List.{flat_map}
 use Rattle.script_text.specs.Printed.{printed}
-use Rattle.script_text.specs.ReportLines.{spaced, indented, line, numbered, stamp_word}
+use Rattle.script_text.specs.ReportLines.{spaced, indented, line, texts_by_place, stamp_word}
 use Rattle.script_text.specs.declared.journal.Entry.{Entry}
 use Rattle.script_text.specs.declared.journal.Entry.TheVariants.{Arrive, Admin, Bind, Plan, Leave, Granted, Refused, Send, Release, Timeout}
 use Rattle.script_text.specs.declared.journal.Why.{Why}
@@ -69,8 +69,8 @@ session_text s session =
     session_line s session
     ++ flat_map (λ entry. indented (entry_words entry)) session.entries
     ++ flat_map (λ holding. indented (holding_words holding)) session.holdings
-    ++ numbered inbound_line 0 session.inbound
-    ++ numbered outbound_line 0 session.outbound
+    ++ texts_by_place inbound_line 0 session.inbound
+    ++ texts_by_place outbound_line 0 session.outbound
 
 unfoldable pub stray_line : Stray → List ℕ
 stray_line stray = line (codes "stray") (decimal stray.library ∷ decimal stray.nr ∷ decimal stray.s ∷ [])
@@ -119,8 +119,8 @@ library_line library = line (codes "library") (decimal library.number ∷ codes 
 abbrev pub report_of : RunRecord → List ℕ
 report_of run =
     line (codes "fixgate") (codes "report" ∷ decimal 1 ∷ [])
-    ++ numbered session_text 0 run.engine.sessions
+    ++ texts_by_place session_text 0 run.engine.sessions
     ++ flat_map stray_line run.engine.strays
-    ++ numbered connection_text 0 run.engine.connections
+    ++ texts_by_place connection_text 0 run.engine.connections
     ++ flat_map library_line run.libraries
     ++ line (codes "end") []

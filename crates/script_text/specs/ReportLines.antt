@@ -2,8 +2,9 @@
 use Rattle.std.specs.Prelude.{ℕ, ◌+◌, List, [], ◌∷◌, ◌++◌, decimal, min}
 use Rattle.fix_fields.specs.Stamp.{stamp_of}
 use Rattle.std.specs.List.{flat_map}
-use Rattle.script_text.specs.declared.report_lines.Part.{Part}
-use Rattle.script_text.specs.declared.report_lines.Part.TheVariants.{Word, Number, Stamp, Printed}
+use Rattle.gate_io.specs.declared.clocks.TheConstants.{LAST_MOMENT}
+use Rattle.script_text.specs.declared.report_lines.ReportWord.{ReportWord}
+use Rattle.script_text.specs.declared.report_lines.ReportWord.TheVariants.{Word, Number, Stamp, Printed}
 use Rattle.script_text.specs.Printed.{printed}
 
 -- words with a space before each
@@ -19,17 +20,17 @@ abbrev pub line : List ℕ → List (List ℕ) → List ℕ
 line head words = head ++ indented words
 
 -- texts of values in order, each with its place
-abbrev pub numbered : {X : Type 0} → (ℕ → X → List ℕ) → ℕ → List X → List ℕ
-numbered text n [] = []
-numbered text n (x ∷ xs) = text n x ++ numbered text (n + 1) xs
+abbrev pub texts_by_place : {X : Type 0} → (ℕ → X → List ℕ) → ℕ → List X → List ℕ
+texts_by_place text n [] = []
+texts_by_place text n (x ∷ xs) = text n x ++ texts_by_place text (n + 1) xs
 
 -- a moment as it is printed: a later one than the last is taken as that one
 unfoldable pub stamp_word : ℕ → List ℕ
-stamp_word ms = stamp_of (min ms 253402300799999)
+stamp_word ms = stamp_of (min ms LAST_MOMENT)
 
--- the word of a part
-abbrev pub part_text : Part → List ℕ
-part_text (Word text) = text.now
-part_text (Number n) = decimal n
-part_text (Stamp ms) = stamp_word ms
-part_text (Printed bytes) = printed bytes.now
+-- the text of a word
+abbrev pub word_text : ReportWord → List ℕ
+word_text (Word text) = text.now
+word_text (Number n) = decimal n
+word_text (Stamp ms) = stamp_word ms
+word_text (Printed bytes) = printed bytes.now

@@ -1,5 +1,6 @@
 -- What the lines read so far say.
 use Rattle.std.specs.Prelude.{ℕ, ◌+◌, List, [], ◌∷◌, ◌++◌}
+use Rattle.script_text.specs.declared.config.TheConstants.{MOST_ASKS, MOST_LEASES, MOST_SENDS}
 use Rattle.script_text.specs.declared.config.Config.{Config}
 use Rattle.script_text.specs.declared.lines.Line.{Line}
 use Rattle.script_text.specs.declared.lines.Line.TheVariants as line
@@ -22,9 +23,9 @@ no_config = record {
   libraries = 0;
   connections = 0;
   lane = 16;
-  leases = 16_777_215;
-  sends = 4_294_967_295;
-  asks = 4_294_967_295;
+  leases = MOST_LEASES;
+  sends = MOST_SENDS;
+  asks = MOST_ASKS;
   timeout = 5_000;
   hold = 1_000;
 }
@@ -38,16 +39,16 @@ no_lines = record {
 }
 
 -- the configuration with one more setting
-abbrev pub configured : Setting → Config → Config
-configured (setting.Session names) config = record config { names = config.names ++ names ∷ [] }
-configured (setting.Libraries n) config = record config { libraries = n }
-configured (setting.Connections n) config = record config { connections = n }
-configured (setting.Lane n) config = record config { lane = n }
-configured (setting.Leases n) config = record config { leases = n }
-configured (setting.Sends n) config = record config { sends = n }
-configured (setting.Asks n) config = record config { asks = n }
-configured (setting.Timeout n) config = record config { timeout = n }
-configured (setting.Hold n) config = record config { hold = n }
+abbrev pub config_with : Setting → Config → Config
+config_with (setting.Session names) config = record config { names = config.names ++ names ∷ [] }
+config_with (setting.Libraries n) config = record config { libraries = n }
+config_with (setting.Connections n) config = record config { connections = n }
+config_with (setting.Lane n) config = record config { lane = n }
+config_with (setting.Leases n) config = record config { leases = n }
+config_with (setting.Sends n) config = record config { sends = n }
+config_with (setting.Asks n) config = record config { asks = n }
+config_with (setting.Timeout n) config = record config { timeout = n }
+config_with (setting.Hold n) config = record config { hold = n }
 
 -- the lines of the sessions, where a setting stands on line n
 abbrev pub session_lines_with : ℕ → Setting → List ℕ → List ℕ
@@ -69,7 +70,7 @@ abbrev pub setting_with : ℕ → Setting → SoFar → SoFar
 setting_with n what said =
     record said {
       script = record said.script {
-        config = configured what said.script.config;
+        config = config_with what said.script.config;
         session_lines = session_lines_with n what said.script.session_lines;
       };
     }

@@ -10,19 +10,31 @@ pub struct Names {
     pub them: Bytes,
 }
 
+/// The most sessions.
+pub const MOST_SESSIONS: usize = 64;
+
+/// The most leases of a session.
+pub const MOST_LEASES: u32 = 16_777_215;
+
+/// The most sends of a lease.
+pub const MOST_SENDS: u32 = 4_294_967_295;
+
+/// The most requests of a library.
+pub const MOST_ASKS: u32 = 4_294_967_295;
+
 /// What the gateway is told before it starts.
 #[derive(Debug, Drop)]
 pub struct Config {
-    /// The sessions, at most 64, no two with the same pair of names. A session's number is its
+    /// The sessions, at most `MOST_SESSIONS`, no two with the same pair of names. A session's number is its
     /// place here, from 0.
     pub names: Rows<Names>,
     /// The libraries are numbered from 1 to this, at most 16.
     pub libraries: u8,
-    /// How many connections a served run takes, at most 1,024.
+    /// How many connections a served run takes, at most gate_io's `MOST_CONNECTIONS`.
     pub connections: u32,
     /// How many messages of a library may wait in a session's lane, from 1 to 16.
     pub lane: u8,
-    /// How many leases a session may give, from 1 to 16,777,215.
+    /// How many leases a session may give, from 1 to `MOST_LEASES`.
     pub leases: u32,
     /// How many messages may be sent under a lease, at least 1.
     pub sends: u32,

@@ -5,17 +5,14 @@ ghost use Rattle.std.specs.List.{list_any};
 ghost use Rattle.script_text.specs.Grammar.{config_line, limit_line, names_line, option_line, same_names, session_line};
 ghost use Rattle.script_text.specs.Lent.{lent_names, names_of};
 
-use crate::config::Names;
-use crate::fields::Fields;
+use crate::args::Args;
+use crate::config::{MOST_ASKS, MOST_LEASES, MOST_SENDS, MOST_SESSIONS, Names};
 use crate::kinds::ScriptKind;
 use crate::lines::{ConfigWord, LimitWord, Setting};
 use crate::parts::{Part, both, demand};
 use crate::words::limit_word_of;
-use gate_io::{Bytes, NoMemory};
+use gate_io::{Bytes, MOST_CONNECTIONS, NoMemory};
 use std::alloc::Global;
-
-/// The most sessions.
-const MOST_SESSIONS: usize = 64;
 
 /// What a line of the configuration sets, wherever it stands, behind its first word. `before` has
 /// the sessions of the lines before.
@@ -25,18 +22,18 @@ pub(crate) fn read_config_line(
     serving: bool,
     before: &[Names],
     word: ConfigWord,
-    fields: Fields<'_>,
+    args: Args<'_>,
 ) -> Result<Part<Setting>, NoMemory>
-    ensures { IfOk result (λ part. part ≡ config_line serving before.now word fields.entry) }
+    ensures { IfOk result (λ part. part ≡ config_line serving before.now word args.entry) }
 {
     match word {
-        ConfigWord::Session => read_session_line(alloc, before, fields),
-        ConfigWord::Libraries => Ok(fields.last_u8(0, 16).map(Setting::Libraries)),
+        ConfigWord::Session => read_session_line(alloc, before, args),
+        ConfigWord::Libraries => Ok(args.last_u8(0, 16).map(Setting::Libraries)),
         ConfigWord::Connections => {
-            let line = fields.last_u32(0, 1_024).map(Setting::Connections);
+            let line = args.last_u32(0, MOST_CONNECTIONS).map(Setting::Connections);
             Ok(demand(serving, ScriptKind::Misplaced, line))
         }
-        ConfigWord::Limit => Ok(read_option_line(fields)),
+        ConfigWord::Limit => Ok(read_option_line(args)),
     }
 }
 
@@ -45,11 +42,11 @@ pub(crate) fn read_config_line(
 fn read_session_line(
     alloc: Global,
     before: &[Names],
-    fields: Fields<'_>,
+    args: Args<'_>,
 ) -> Result<Part<Setting>, NoMemory>
-    ensures { IfOk result (λ part. part ≡ session_line before.now fields.entry) }
+    ensures { IfOk result (λ part. part ≡ session_line before.now args.entry) }
 {
-    let line = match read_names(fields) {
+    let line = match read_names(args) {
         Ok((us, them)) if has_names(before, us, them) => Err(ScriptKind::OutOfRange),
         Ok((us, them)) => Ok(Setting::Session(Names {
             us: Bytes::of(Vec::from_slice(alloc, us)?),
@@ -63,12 +60,12 @@ fn read_session_line(
 
 /// Two words that are names, with which the line ends.
 #[tactic(auto, unfolding(crate::specs::Grammar::names_line))]
-fn read_names<'a>(mut fields: Fields<'a>) -> Part<(&'a [u8], &'a [u8])>
-    ensures { lent_names result ≡ names_line fields.entry }
+fn read_names<'a>(mut args: Args<'a>) -> Part<(&'a [u8], &'a [u8])>
+    ensures { lent_names result ≡ names_line args.entry }
 {
-    let us = fields.name();
-    let them = fields.name();
-    fields.end(both(us, them))
+    let us = args.name();
+    let them = args.name();
+    args.end(both(us, them))
 }
 
 /// Whether a session has these names.
@@ -80,29 +77,29 @@ fn has_names(before: &[Names], us: &[u8], them: &[u8]) -> bool
 
 /// What follows `option`: the word of a limit, and the number.
 #[tactic(auto, unfolding(crate::specs::Grammar::option_line))]
-fn read_option_line(mut fields: Fields<'_>) -> Part<Setting>
-    ensures { result ≡ option_line fields.entry }
+fn read_option_line(mut args: Args<'_>) -> Part<Setting>
+    ensures { result ≡ option_line args.entry }
 {
-    let Some(word) = fields.keyword() else {
+    let Some(word) = args.keyword() else {
         return Err(ScriptKind::BadShape);
     };
     match limit_word_of(word) {
-        Some(word) => read_limit_line(word, fields),
+        Some(word) => read_limit_line(word, args),
         None => Err(ScriptKind::UnknownWord),
     }
 }
 
 /// What follows the word of a limit.
 #[tactic(auto, unfolding(crate::specs::Grammar::limit_line))]
-fn read_limit_line(word: LimitWord, fields: Fields<'_>) -> Part<Setting>
-    ensures { result ≡ limit_line word fields.entry }
+fn read_limit_line(word: LimitWord, args: Args<'_>) -> Part<Setting>
+    ensures { result ≡ limit_line word args.entry }
 {
     match word {
-        LimitWord::Lane => fields.last_u8(1, 16).map(Setting::Lane),
-        LimitWord::Leases => fields.last_u32(1, 16_777_215).map(Setting::Leases),
-        LimitWord::Sends => fields.last_u32(1, 4_294_967_295).map(Setting::Sends),
-        LimitWord::Asks => fields.last_u32(1, 4_294_967_295).map(Setting::Asks),
-        LimitWord::Timeout => fields.last_u64(1, 3_600_000).map(Setting::Timeout),
-        LimitWord::Hold => fields.last_u64(1, 3_600_000).map(Setting::Hold),
+        LimitWord::Lane => args.last_u8(1, 16).map(Setting::Lane),
+        LimitWord::Leases => args.last_u32(1, MOST_LEASES).map(Setting::Leases),
+        LimitWord::Sends => args.last_u32(1, MOST_SENDS).map(Setting::Sends),
+        LimitWord::Asks => args.last_u32(1, MOST_ASKS).map(Setting::Asks),
+        LimitWord::Timeout => args.last_u64(1, 3_600_000).map(Setting::Timeout),
+        LimitWord::Hold => args.last_u64(1, 3_600_000).map(Setting::Hold),
     }
 }

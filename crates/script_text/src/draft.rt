@@ -4,7 +4,7 @@ ghost use Rattle.std.specs.Prelude.{◌≡◌, ◌<◌, ◌≤◌, OnOk};
 ghost use Rattle.script_text.specs.Grammar.{no_steps};
 ghost use Rattle.script_text.specs.SoFar.{no_lines, said_with, setting_with, step_with};
 
-use crate::config::{Config, Names};
+use crate::config::{Config, MOST_ASKS, MOST_LEASES, MOST_SENDS, Names};
 use crate::lines::{Line, Setting};
 use crate::steps::{Script, Step};
 use gate_io::{NoMemory, Rows};
@@ -41,9 +41,9 @@ const NO_LINE: Limits = Limits {
     libraries: 0,
     connections: 0,
     lane: 16,
-    leases: 16_777_215,
-    sends: 4_294_967_295,
-    asks: 4_294_967_295,
+    leases: MOST_LEASES,
+    sends: MOST_SENDS,
+    asks: MOST_ASKS,
     timeout: 5_000,
     hold: 1_000,
 };

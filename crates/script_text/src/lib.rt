@@ -4,12 +4,12 @@
 //! outside the grammar and what is wrong with it. `report_text` writes what a run left.
 #![tactic(auto)]
 
+mod args;
 mod causes;
 mod config;
 mod config_lines;
 mod draft;
 mod event_lines;
-mod fields;
 mod journal;
 mod kinds;
 pub mod laws;
@@ -27,7 +27,7 @@ mod tests;
 mod words;
 
 pub use causes::Cause;
-pub use config::{Config, Names};
+pub use config::{Config, MOST_ASKS, MOST_LEASES, MOST_SENDS, MOST_SESSIONS, Names};
 pub use journal::{Entry, Holding, Why};
 pub use kinds::{ScriptError, ScriptKind};
 pub use printed::{push_printed, read_text};

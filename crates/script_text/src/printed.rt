@@ -1,7 +1,7 @@
 //! Bytes as they are printed in scripts and reports: `|` is byte 1, and `\` with two hexadecimal
 //! digits is the byte with that value.
 
-ghost use Rattle.std.specs.Prelude.{◌≡◌, ◌<◌, ◌++◌, IfOk, IfSome, OnOk};
+ghost use Rattle.std.specs.Prelude.{◌≡◌, ◌<◌, ◌++◌, IfOk, IfSome, OnErr, OnOk, length, take};
 ghost use Rattle.script_text.specs.Printed.{printed, printed_byte, escaped_byte, escaped, hex_digit_of, hex_value, is_printable, front_of, lent, meant};
 
 use gate_io::{Bytes, NoMemory};
@@ -17,9 +17,23 @@ pub(crate) fn is_printable(b: u8) -> bool
     b' ' <= b && b <= b'~'
 }
 
-/// Puts bytes behind `out` as they are printed.
+/// Puts bytes behind `out` as they are printed. Without memory it is as it was.
 pub fn push_printed(out: &mut Vec<u8>, bytes: &[u8]) -> Result<(), NoMemory>
-    ensures { OnOk result (out.new.items ≡ out.old.items ++ printed bytes.now) }
+    ensures ok { OnOk result (out.new.items ≡ out.old.items ++ printed bytes.now) }
+    ensures err { OnErr result (out.new.items ≡ out.old.items) }
+{
+    let before = out.len();
+    let done = push_each(out, bytes);
+    if done.is_err() {
+        out.truncate(before);
+    }
+    done
+}
+
+/// Puts them there one by one. Without memory a part of what they are printed as is there.
+fn push_each(out: &mut Vec<u8>, bytes: &[u8]) -> Result<(), NoMemory>
+    ensures ok { OnOk result (out.new.items ≡ out.old.items ++ printed bytes.now) }
+    ensures begins { take (length out.old.items) out.new.items ≡ out.old.items }
 {
     for b in bytes {
         push_printed_byte(out, *b)?;
@@ -28,7 +42,8 @@ pub fn push_printed(out: &mut Vec<u8>, bytes: &[u8]) -> Result<(), NoMemory>
 }
 
 fn push_printed_byte(out: &mut Vec<u8>, b: u8) -> Result<(), AllocError>
-    ensures { OnOk result (out.new.items ≡ out.old.items ++ printed_byte b) }
+    ensures ok { OnOk result (out.new.items ≡ out.old.items ++ printed_byte b) }
+    ensures err { OnErr result (out.new.items ≡ out.old.items) }
 {
     match b {
         SOH => out.push(b'|')?,
@@ -40,7 +55,8 @@ fn push_printed_byte(out: &mut Vec<u8>, b: u8) -> Result<(), AllocError>
 }
 
 fn push_escaped(out: &mut Vec<u8>, b: u8) -> Result<(), AllocError>
-    ensures { OnOk result (out.new.items ≡ out.old.items ++ escaped_byte b) }
+    ensures ok { OnOk result (out.new.items ≡ out.old.items ++ escaped_byte b) }
+    ensures err { OnErr result (out.new.items ≡ out.old.items) }
 {
     out.extend_from_slice(&[b'\\', hex_digit(b / 16), hex_digit(b % 16)])
 }

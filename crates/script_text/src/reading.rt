@@ -7,10 +7,10 @@ ghost use Rattle.script_text.specs.Lawful.{IsLawful};
 ghost use Rattle.script_text.specs.Meaning.{IsFaultOf, lines_of, script_of};
 ghost use Rattle.script_text.specs.Printed.{is_printable};
 
+use crate::args::Args;
 use crate::config_lines::read_config_line;
 use crate::draft::Draft;
 use crate::event_lines::read_event_line;
-use crate::fields::Fields;
 use crate::kinds::{ScriptError, ScriptKind};
 use crate::lib_lines::read_lib_line;
 use crate::lines::{Line, Opening};
@@ -80,8 +80,8 @@ fn read_line(
         return Ok(Ok(Line::Blank));
     }
     let (word, behind) = split_word(text);
-    let fields = Fields::of(behind);
-    let line = read_opened_line(alloc, serving, draft, opening_of(word), fields)?;
+    let args = Args::of(behind);
+    let line = read_opened_line(alloc, serving, draft, opening_of(word), args)?;
     Ok(demand(are_printable(text), ScriptKind::BadByte, line))
 }
 
@@ -92,24 +92,24 @@ fn read_opened_line(
     serving: bool,
     draft: &Draft,
     opening: Option<Opening>,
-    fields: Fields<'_>,
+    args: Args<'_>,
 ) -> Result<Part<Line>, NoMemory>
-    ensures { IfOk result (λ part. part ≡ opened_line serving draft.now opening fields.entry) }
+    ensures { IfOk result (λ part. part ≡ opened_line serving draft.now opening args.entry) }
 {
     let Some(opening) = opening else {
         return Ok(Err(ScriptKind::UnknownWord));
     };
     let line = match opening {
         Opening::Configures(word) => {
-            let line = read_config_line(alloc, serving, draft.names(), word, fields)?;
+            let line = read_config_line(alloc, serving, draft.names(), word, args)?;
             demand(draft.has_no_steps(), ScriptKind::Misplaced, line).map(Line::Config)
         }
         Opening::Replays(word) => {
-            let line = read_event_line(alloc, draft.connects(), draft.moment(), word, fields)?;
+            let line = read_event_line(alloc, draft.connects(), draft.moment(), word, args)?;
             demand(!serving, ScriptKind::Misplaced, line).map(Line::Step)
         }
         Opening::Library => {
-            let line = read_lib_line(alloc, serving, draft.libraries(), fields)?;
+            let line = read_lib_line(alloc, serving, draft.libraries(), args)?;
             line.map(Line::Step)
         }
     };

@@ -2,14 +2,14 @@
 
 ghost use Rattle.std.specs.Prelude.{◌≡◌, ◌-◌, ◌<◌, ◌^◌, [], ◌∷◌, ◌++◌, IfOk, OnOk, decimal, map, length};
 ghost use Rattle.std.specs.List.{flat_map};
-ghost use Rattle.script_text.specs.ReportLines.{indented, numbered, part_text};
+ghost use Rattle.script_text.specs.ReportLines.{indented, texts_by_place, word_text};
 ghost use Rattle.script_text.specs.Report.{bound_word, why_words, entry_words, holding_words, owner_of, last_lease_of, inbound_line, outbound_line, session_text, stray_line, cause_words, connection_numbers, written_line, connection_text, library_line, report_of};
 
 use crate::causes::Cause;
 use crate::journal::{Entry, Holding, Why};
 use crate::records::{ConnRecord, LibReport, OutEntry, RunRecord, SessionRecord, Stray};
-use crate::report_lines::Part::{Number, Printed, Stamp, Word};
-use crate::report_lines::{Part, put_indented, put_line, put_spaced};
+use crate::report_lines::ReportWord::{Number, Printed, Stamp, Word};
+use crate::report_lines::{ReportWord, put_indented, put_line, put_spaced};
 use gate_io::{Bytes, NoMemory};
 use std::alloc::Global;
 
@@ -28,7 +28,7 @@ pub fn report_text(alloc: Global, run: &RunRecord) -> Result<Vec<u8>, NoMemory>
 }
 
 fn put_sessions(out: &mut Vec<u8>, sessions: &[SessionRecord]) -> Result<(), NoMemory>
-    ensures { OnOk result (out.new.items ≡ out.old.items ++ numbered session_text 0 sessions.now) }
+    ensures { OnOk result (out.new.items ≡ out.old.items ++ texts_by_place session_text 0 sessions.now) }
 {
     for (s, session) in sessions.iter().enumerate() {
         put_session(out, s as u64, session)?;
@@ -46,7 +46,7 @@ fn put_strays(out: &mut Vec<u8>, strays: &[Stray]) -> Result<(), NoMemory>
 }
 
 fn put_connections(out: &mut Vec<u8>, connections: &[ConnRecord]) -> Result<(), NoMemory>
-    ensures { OnOk result (out.new.items ≡ out.old.items ++ numbered connection_text 0 connections.now) }
+    ensures { OnOk result (out.new.items ≡ out.old.items ++ texts_by_place connection_text 0 connections.now) }
 {
     for (c, connection) in connections.iter().enumerate() {
         put_connection(out, c as u64, connection)?;
@@ -111,7 +111,7 @@ fn put_holdings(out: &mut Vec<u8>, holdings: &[Holding]) -> Result<(), NoMemory>
 
 #[tactic(auto, unfolding(crate::specs::Report::inbound_line))]
 fn put_all_inbound(out: &mut Vec<u8>, bodies: &[Bytes]) -> Result<(), NoMemory>
-    ensures { OnOk result (out.new.items ≡ out.old.items ++ numbered inbound_line 0 bodies.now) }
+    ensures { OnOk result (out.new.items ≡ out.old.items ++ texts_by_place inbound_line 0 bodies.now) }
 {
     for (pos, body) in bodies.iter().enumerate() {
         put_indented(
@@ -123,7 +123,7 @@ fn put_all_inbound(out: &mut Vec<u8>, bodies: &[Bytes]) -> Result<(), NoMemory>
 }
 
 fn put_all_outbound(out: &mut Vec<u8>, entries: &[OutEntry]) -> Result<(), NoMemory>
-    ensures { OnOk result (out.new.items ≡ out.old.items ++ numbered outbound_line 0 entries.now) }
+    ensures { OnOk result (out.new.items ≡ out.old.items ++ texts_by_place outbound_line 0 entries.now) }
 {
     for (place, entry) in entries.iter().enumerate() {
         put_outbound(out, place as u64, entry)?;
@@ -357,7 +357,7 @@ fn put_numbers(
         &[
             Number(c),
             Word("session"),
-            bound_part(session),
+            bound_report_word(session),
             Word("taken"),
             Number(taken),
             Word("garbled"),
@@ -371,8 +371,8 @@ fn put_numbers(
 }
 
 /// The number of the session, or `-` where the connection was never bound.
-fn bound_part(session: Option<u16>) -> Part<'static>
-    ensures { part_text result ≡ bound_word session }
+fn bound_report_word(session: Option<u16>) -> ReportWord<'static>
+    ensures { word_text result ≡ bound_word session }
 {
     match session {
         Some(s) => Number(u64::from(s)),

@@ -1,7 +1,7 @@
 //! Lines of the report: words with one space before each.
 
 ghost use Rattle.std.specs.Prelude.{◌≡◌, ◌++◌, OnOk, map};
-ghost use Rattle.script_text.specs.ReportLines.{part_text, spaced, indented, line};
+ghost use Rattle.script_text.specs.ReportLines.{word_text, spaced, indented, line};
 
 use crate::printed::push_printed;
 use fix_fields::stamp_text;
@@ -10,7 +10,7 @@ use itoa::Buffer;
 
 /// A word of a line.
 #[derive(Clone, Copy, Debug)]
-pub enum Part<'a> {
+pub enum ReportWord<'a> {
     Word(&'a str),
     Number(u64),
     /// A moment, in milliseconds since 1970-01-01.
@@ -20,41 +20,41 @@ pub enum Part<'a> {
 }
 
 /// A line that begins with a word.
-pub fn put_line(out: &mut Vec<u8>, head: &str, parts: &[Part<'_>]) -> Result<(), NoMemory>
-    ensures { OnOk result (out.new.items ≡ out.old.items ++ line head.now (map part_text parts.now)) }
+pub fn put_line(out: &mut Vec<u8>, head: &str, words: &[ReportWord<'_>]) -> Result<(), NoMemory>
+    ensures { OnOk result (out.new.items ≡ out.old.items ++ line head.now (map word_text words.now)) }
 {
     out.extend_from_slice(head.as_bytes())?;
-    put_indented(out, parts)
+    put_indented(out, words)
 }
 
 /// A line that begins with a space, or the rest of one.
-pub fn put_indented(out: &mut Vec<u8>, parts: &[Part<'_>]) -> Result<(), NoMemory>
-    ensures { OnOk result (out.new.items ≡ out.old.items ++ indented (map part_text parts.now)) }
+pub fn put_indented(out: &mut Vec<u8>, words: &[ReportWord<'_>]) -> Result<(), NoMemory>
+    ensures { OnOk result (out.new.items ≡ out.old.items ++ indented (map word_text words.now)) }
 {
-    put_spaced(out, parts)?;
+    put_spaced(out, words)?;
     out.push(b'\n')?;
     Ok(())
 }
 
 /// Words with a space before each.
-pub fn put_spaced(out: &mut Vec<u8>, parts: &[Part<'_>]) -> Result<(), NoMemory>
-    ensures { OnOk result (out.new.items ≡ out.old.items ++ spaced (map part_text parts.now)) }
+pub fn put_spaced(out: &mut Vec<u8>, words: &[ReportWord<'_>]) -> Result<(), NoMemory>
+    ensures { OnOk result (out.new.items ≡ out.old.items ++ spaced (map word_text words.now)) }
 {
-    for part in parts {
+    for word in words {
         out.push(b' ')?;
-        put_part(out, part)?;
+        put_word(out, word)?;
     }
     Ok(())
 }
 
-fn put_part(out: &mut Vec<u8>, part: &Part<'_>) -> Result<(), NoMemory>
-    ensures { OnOk result (out.new.items ≡ out.old.items ++ part_text part.now) }
+fn put_word(out: &mut Vec<u8>, word: &ReportWord<'_>) -> Result<(), NoMemory>
+    ensures { OnOk result (out.new.items ≡ out.old.items ++ word_text word.now) }
 {
-    match part {
-        Part::Word(text) => out.extend_from_slice(text.as_bytes())?,
-        Part::Number(n) => out.extend_from_slice(Buffer::new().format(*n).as_bytes())?,
-        Part::Stamp(ms) => out.extend_from_slice(&stamp_text((*ms).min(LAST_MOMENT)))?,
-        Part::Printed(bytes) => push_printed(out, bytes)?,
+    match word {
+        ReportWord::Word(text) => out.extend_from_slice(text.as_bytes())?,
+        ReportWord::Number(n) => out.extend_from_slice(Buffer::new().format(*n).as_bytes())?,
+        ReportWord::Stamp(ms) => out.extend_from_slice(&stamp_text((*ms).min(LAST_MOMENT)))?,
+        ReportWord::Printed(bytes) => push_printed(out, bytes)?,
     }
     Ok(())
 }

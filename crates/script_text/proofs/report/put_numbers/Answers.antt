@@ -4,4 +4,4 @@ use Rattle.script_text.proofs.report.put_numbers.Goals as goal
 
 pub returns : goal.returns
 unfolding connection_numbers
-returns c = rw (c.in_ok-put_spaced.ensures, c.in_ok-extend_from_slice.ensures.items, c.bound_part.ensures) (append_assoc c.args.out.now.items _ _)
+returns c = rw (c.in_ok-put_spaced.ensures, c.in_ok-extend_from_slice.ensures.items, c.bound_report_word.ensures) (append_assoc c.args.out.now.items _ _)

@@ -1,6 +1,6 @@
 use Rattle.std.proofs.Common.{◌≡◌, ◌++◌, map, take}
-use Rattle.script_text.specs.ReportLines.{spaced, part_text}
+use Rattle.script_text.specs.ReportLines.{spaced, word_text}
 use Rattle.script_text.proofs.report_lines.put_spaced.Given as goal
 
-abbrev pub invariant-loop-part : goal.invariant-loop-part
-invariant-loop-part l = l.out.items ≡ l.initial.out.items ++ spaced (map part_text (take l.part-index l.parts))
+abbrev pub invariant-loop-word : goal.invariant-loop-word
+invariant-loop-word l = l.out.items ≡ l.initial.out.items ++ spaced (map word_text (take l.word-index l.words))

@@ -1,7 +1,7 @@
 use Rattle.std.proofs.Common.{◌++◌, ◌∙◌, ap}
 use Rattle.fix_fields.specs.Stamp.{stamp_of}
 use Rattle.script_text.specs.ReportLines.{stamp_word}
-use Rattle.script_text.proofs.report_lines.put_part.Goals as goal
+use Rattle.script_text.proofs.report_lines.put_word.Goals as goal
 
 pub returns-in_ok-extend_from_slice-in-Stamp : goal.returns-in_ok-extend_from_slice-in-Stamp
 unfolding stamp_word

@@ -1,8 +1,7 @@
-//! The fields of a line behind its first word.
+//! What stands in a line behind its first word.
 
-ghost use Rattle.std.specs.Prelude.{◌≡◌, ◌≤◌, IfOk, length, decimal};
-ghost use Rattle.fix_frame.specs.Frame.{frame_of};
-ghost use Rattle.script_text.specs.Fields.{body_at, ends, is_framed, keyword_at, later, lent_args, lent_word, moment_at, name_at, number_at, number_below, number_line, number_within, text_at, word_at};
+ghost use Rattle.std.specs.Prelude.{◌≡◌, ◌≤◌, IfOk};
+ghost use Rattle.script_text.specs.Args.{body_at, ends, is_framed, keyword_at, later, lent_args, lent_word, moment_at, name_at, number_at, number_below, number_line, number_within, text_at, word_at};
 ghost use Rattle.script_text.specs.Grammar.{session_at};
 
 use crate::kinds::ScriptKind;
@@ -10,36 +9,36 @@ use crate::parts::{Part, demand};
 use crate::printed::read_text;
 use crate::words::{is_name, read_natural, split_word};
 use fix_fields::read_stamp;
-use fix_frame::{LONGEST_FRAME, is_body};
+use fix_frame::{LONGEST_FRAME, frame_len, is_body};
 use gate_io::{Bytes, NoMemory};
 use std::alloc::Global;
 use std::marker::Model;
 
 /// What is left of a line behind a word: nothing, or what follows its space.
 #[derive(Drop)]
-pub(crate) struct Fields<'a> {
+pub(crate) struct Args<'a> {
     rest: Option<&'a [u8]>,
 }
 
-impl<'a> Model for Fields<'a> {
+impl<'a> Model for Args<'a> {
     ghost use Rattle.std.specs.Prelude.{ℕ, List, Option};
-    ghost use Rattle.script_text.specs.Fields.{lent_args};
+    ghost use Rattle.script_text.specs.Args.{lent_args};
 
     ghost Value = { Option (List ℕ) };
 
     ghost view = { λ f. lent_args f.rest };
 }
 
-impl<'a> Fields<'a> {
+impl<'a> Args<'a> {
     /// What is left behind a word that was split off.
-    pub(crate) fn of(rest: Option<&'a [u8]>) -> Fields<'a>
+    pub(crate) fn of(rest: Option<&'a [u8]>) -> Args<'a>
         ensures { result ≡ lent_args rest.entry }
     {
-        Fields { rest }
+        Args { rest }
     }
 
     /// The next word, which may be empty, if there is one.
-    #[tactic(auto, unfolding(crate::specs::Fields::later))]
+    #[tactic(auto, unfolding(crate::specs::Args::later))]
     pub(crate) fn keyword(&mut self) -> Option<&'a [u8]>
         ensures value { lent_args result ≡ keyword_at self.old }
         ensures rest { self.new ≡ later self.old }
@@ -50,7 +49,7 @@ impl<'a> Fields<'a> {
     }
 
     /// The next word, which has to be there and not be empty.
-    #[tactic(auto, unfolding(crate::specs::Fields::word_at, crate::specs::Fields::later))]
+    #[tactic(auto, unfolding(crate::specs::Args::word_at, crate::specs::Args::later))]
     fn word(&mut self) -> Part<&'a [u8]>
         ensures value { lent_word result ≡ word_at self.old }
         ensures rest { self.new ≡ later self.old }
@@ -68,7 +67,7 @@ impl<'a> Fields<'a> {
     }
 
     /// The next word as a number.
-    #[tactic(auto, unfolding(crate::specs::Fields::number_at))]
+    #[tactic(auto, unfolding(crate::specs::Args::number_at))]
     pub(crate) fn number(&mut self) -> Part<u64>
         ensures value { result ≡ number_at self.old }
         ensures rest { self.new ≡ later self.old }
@@ -78,7 +77,7 @@ impl<'a> Fields<'a> {
     }
 
     /// A number in a range.
-    #[tactic(auto, unfolding(crate::specs::Fields::number_within))]
+    #[tactic(auto, unfolding(crate::specs::Args::number_within))]
     fn number_within(&mut self, low: u64, high: u64) -> Part<u64>
         ensures value { result ≡ number_within low high self.old }
         ensures rest { self.new ≡ later self.old }
@@ -111,7 +110,7 @@ impl<'a> Fields<'a> {
     }
 
     /// A number of 64 bits in a range, with which the line ends.
-    #[tactic(auto, unfolding(crate::specs::Fields::number_line))]
+    #[tactic(auto, unfolding(crate::specs::Args::number_line))]
     pub(crate) fn last_u64(mut self, low: u64, high: u64) -> Part<u64>
         ensures { result ≡ number_line low high self.entry }
     {
@@ -120,7 +119,7 @@ impl<'a> Fields<'a> {
     }
 
     /// A number of 32 bits in a range, with which the line ends.
-    #[tactic(auto, unfolding(crate::specs::Fields::number_line))]
+    #[tactic(auto, unfolding(crate::specs::Args::number_line))]
     pub(crate) fn last_u32(mut self, low: u32, high: u32) -> Part<u32>
         ensures { result ≡ number_line low high self.entry }
     {
@@ -129,7 +128,7 @@ impl<'a> Fields<'a> {
     }
 
     /// A number of 8 bits in a range, with which the line ends.
-    #[tactic(auto, unfolding(crate::specs::Fields::number_line))]
+    #[tactic(auto, unfolding(crate::specs::Args::number_line))]
     pub(crate) fn last_u8(mut self, low: u8, high: u8) -> Part<u8>
         ensures { result ≡ number_line low high self.entry }
     {
@@ -148,7 +147,7 @@ impl<'a> Fields<'a> {
     }
 
     /// The number of one of so many connections.
-    #[tactic(auto, unfolding(crate::specs::Fields::number_below))]
+    #[tactic(auto, unfolding(crate::specs::Args::number_below))]
     pub(crate) fn connection(&mut self, connects: u32) -> Part<u32>
         ensures value { result ≡ number_below connects self.old }
         ensures rest { self.new ≡ later self.old }
@@ -162,7 +161,7 @@ impl<'a> Fields<'a> {
     }
 
     /// The next word as the moment of a timestamp.
-    #[tactic(auto, unfolding(crate::specs::Fields::moment_at))]
+    #[tactic(auto, unfolding(crate::specs::Args::moment_at))]
     pub(crate) fn moment(&mut self) -> Part<u64>
         ensures value { result ≡ moment_at self.old }
         ensures rest { self.new ≡ later self.old }
@@ -172,7 +171,7 @@ impl<'a> Fields<'a> {
     }
 
     /// The next word as a name.
-    #[tactic(auto, unfolding(crate::specs::Fields::name_at))]
+    #[tactic(auto, unfolding(crate::specs::Args::name_at))]
     pub(crate) fn name(&mut self) -> Part<&'a [u8]>
         ensures value { lent_word result ≡ name_at self.old }
         ensures rest { self.new ≡ later self.old }
@@ -186,7 +185,7 @@ impl<'a> Fields<'a> {
     }
 
     /// All that follows, as the bytes that it stands for.
-    #[tactic(auto, unfolding(crate::specs::Fields::text_at))]
+    #[tactic(auto, unfolding(crate::specs::Args::text_at))]
     pub(crate) fn text(&self, alloc: Global) -> Result<Part<Bytes>, NoMemory>
         ensures { IfOk result (λ part. part ≡ text_at self.now) }
     {
@@ -198,7 +197,7 @@ impl<'a> Fields<'a> {
     }
 
     /// All that follows, as the body of a frame.
-    #[tactic(auto, unfolding(crate::specs::Fields::body_at))]
+    #[tactic(auto, unfolding(crate::specs::Args::body_at))]
     pub(crate) fn body(&self, alloc: Global) -> Result<Part<Bytes>, NoMemory>
         ensures { IfOk result (λ part. part ≡ body_at self.now) }
     {
@@ -220,29 +219,5 @@ impl<'a> Fields<'a> {
 fn is_framed(bytes: &[u8]) -> bool
     ensures { result ≡ is_framed bytes.now }
 {
-    if !is_body(bytes) || bytes.len() > LONGEST_FRAME {
-        return false;
-    }
-    frame_len(bytes) <= LONGEST_FRAME
-}
-
-/// How many bytes the frame of a body has: `8=FIX.4.4|9=`, the digits of the length and `|` before
-/// the body, and `10=ccc|` behind it.
-fn frame_len(body: &[u8]) -> usize
-    requires { length body.now ≤ LONGEST_FRAME }
-    ensures { result ≡ length (frame_of body.now) }
-{
-    body.len() + decimal_len(body.len()) + 20
-}
-
-/// How many digits the number has.
-fn decimal_len(number: usize) -> usize
-    ensures digits { result ≡ length (decimal number) }
-    ensures small { result ≤ 20 }
-{
-    if number < 10 {
-        1
-    } else {
-        decimal_len(number / 10) + 1
-    }
+    is_body(bytes) && frame_len(bytes) <= LONGEST_FRAME
 }

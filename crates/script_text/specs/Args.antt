@@ -1,10 +1,11 @@
--- The fields of a line behind its first word. What is behind a word is nothing, or what follows its space.
+-- What stands in a line behind its first word. What is behind a word is nothing, or what follows its space.
 use Rattle.std.specs.Prelude.{ℕ, Bool, false, ◌&&◌, ◌==◌, nat_le, nat_lt, if◌then◌else◌, List, [], ◌∷◌, length, take, drop, Option, Some, None, Result, Ok, Err, codes, is_none}
 use Rattle.std.specs.Borrow.{Bor}
 use Rattle.std.specs.Option.{option_map, option_and_then, ok_or}
 use Rattle.std.specs.Str.{bytes_eq}
 use Rattle.fix_fields.specs.Stamp.{moment_of}
 use Rattle.fix_frame.specs.Frame.{frame_of}
+use Rattle.fix_frame.specs.declared.layout.TheConstants.{LONGEST_FRAME}
 use Rattle.script_text.specs.Kinds.{◌>>=◌, demand}
 use Rattle.script_text.specs.Printed.{meant}
 use Rattle.script_text.specs.Words.{word_in, behind_word, natural_of, is_name}
@@ -81,9 +82,9 @@ ends_field (b ∷ c ∷ bytes) = ends_field (c ∷ bytes)
 abbrev pub is_body_text : List ℕ → Bool
 is_body_text bytes = bytes_eq (take 3 bytes) (codes "35=") && ends_field (drop 3 bytes)
 
--- the body of a frame of at most 65,536 bytes
+-- the body of a frame that isn't too long
 unfoldable pub is_framed : List ℕ → Bool
-is_framed bytes = is_body_text bytes && nat_le (length (frame_of bytes)) 65536
+is_framed bytes = is_body_text bytes && nat_le (length (frame_of bytes)) LONGEST_FRAME
 
 -- all that follows, as the body of a frame
 unfoldable pub body_at : Option (List ℕ) → Result (List ℕ) ScriptKind
