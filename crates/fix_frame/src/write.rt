@@ -6,7 +6,9 @@ ghost use Rattle.fix_frame.specs.Frame.{IsBody, frame_of, three_digits};
 ghost use Rattle.fix_frame.specs.Cut.{cut, good, onto};
 ghost use Rattle.fix_frame.specs.Printed.{text_of};
 
-use crate::layout::{BODY_END, BODY_START, HEAD, LONGEST_BODY, LONGEST_FRAME, SOH, TRAILER, checksum};
+use crate::layout::{
+    BODY_END, BODY_START, HEAD, LONGEST_BODY, LONGEST_FRAME, SOH, TRAILER, checksum,
+};
 use itoa::Buffer;
 use std::alloc::{AllocError, AllocFailed, Global};
 use std::error::Error;
@@ -98,12 +100,7 @@ pub fn write_frame(alloc: Global, body: &[u8]) -> Result<Vec<u8>, FrameError>
 }
 
 /// The frame of a body, whose length has these digits, in a vector with room for so many bytes.
-fn framed(
-    alloc: Global,
-    digits: &str,
-    body: &[u8],
-    room: usize,
-) -> Result<Vec<u8>, AllocError>
+fn framed(alloc: Global, digits: &str, body: &[u8], room: usize) -> Result<Vec<u8>, AllocError>
     requires { digits.now ≡ decimal (length body.now) }
     ensures { IfOk result (λ frame. frame.items ≡ frame_of body.now) }
 {
