@@ -1,0 +1,149 @@
+//! Frames: worked rows, garbled bytes and the limits.
+
+use crate::feeding::cut_parts;
+use crate::texts::piped;
+use fix_frame::{
+    Cutter, FrameError, LEAST_LIMIT, LEAST_ROOM, LONGEST_BODY, LONGEST_FRAME, Piece, frame_len,
+    is_body, write_frame,
+};
+use std::alloc::Global;
+use std::process::Abort;
+use std::test::Fail;
+
+const LOGON: &str = "35=A|49=BUYER|56=GATE|34=1|52=20260105-09:30:00.000|98=0|108=30|";
+
+const ORDER: &str = "35=D|49=BUYER|56=GATE|34=2|52=20260105-09:30:00.000|11=A1|";
+
+/// The frame of a body.
+fn frame_of(rt: &impl Abort, alloc: Global, body: &[u8]) -> Result<Vec<u8>, FrameError> {
+    assert!(rt; is_body(body));
+    write_frame(alloc, body)
+}
+
+#[test]
+fn worked_frames_are_written_and_cut(rt: HostRuntime) -> Result<(), Fail> {
+    let rows = [
+        (LOGON, "8=FIX.4.4|9=64|", "10=148|", 86),
+        (ORDER, "8=FIX.4.4|9=58|", "10=148|", 80),
+        (
+            "35=D|49=BUYER|56=GATE|34=3|52=20260105-09:30:00.000|11=A2|",
+            "8=FIX.4.4|9=58|",
+            "10=150|",
+            80,
+        ),
+    ];
+    let mut cutter = Cutter::new(rt.alloc(), LONGEST_FRAME)?;
+    for (text, head, trailer, length) in rows {
+        let body = piped(rt.alloc(), text)?;
+        let frame = frame_of(&rt, rt.alloc(), &body)?;
+        let mut whole = piped(rt.alloc(), head)?;
+        whole.extend_from_slice(&body)?;
+        whole.extend_from_slice(&piped(rt.alloc(), trailer)?)?;
+        assert_eq!(rt; frame, whole);
+        assert_eq!(rt; frame.len(), length);
+        assert!(rt; frame.len() <= cutter.room());
+        cutter.feed(&frame);
+        assert_eq!(rt; cutter.next(), Some(Piece::Good(&body)));
+        assert_eq!(rt; cutter.next(), None);
+    }
+    Ok(())
+}
+
+#[test]
+fn garbled_bytes_are_counted(rt: HostRuntime) -> Result<(), Fail> {
+    let rows = [
+        // A length may have leading zeros.
+        ("8=FIX.4.4|9=000064|", LOGON, "10=084|", 0, 1),
+        // Byte 65 of the body doesn't end a field.
+        ("8=FIX.4.4|9=65|", LOGON, "10=149|", 86, 86),
+        ("8=FIX.4.4|9=58|", ORDER, "10=149|", 80, 1),
+    ];
+    let order = piped(rt.alloc(), ORDER)?;
+    let after = frame_of(&rt, rt.alloc(), &order)?;
+    for (head, body, trailer, garbled, count) in rows {
+        let mut bytes = piped(rt.alloc(), head)?;
+        bytes.extend_from_slice(&piped(rt.alloc(), body)?)?;
+        bytes.extend_from_slice(&piped(rt.alloc(), trailer)?)?;
+        bytes.extend_from_slice(&after)?;
+        let mut cutter = Cutter::new(rt.alloc(), LONGEST_FRAME)?;
+        assert!(rt; bytes.len() <= cutter.room());
+        cutter.feed(&bytes);
+        let mut sum = 0usize;
+        for _ in 0..count {
+            if let Some(Piece::Garbled { length }) = cutter.next() {
+                sum = sum.wrapping_add(length);
+            }
+        }
+        assert_eq!(rt; sum, garbled);
+        assert_eq!(rt; cutter.next(), Some(Piece::Good(&order)));
+        assert_eq!(rt; cutter.next(), None);
+    }
+    Ok(())
+}
+
+/// A body of so many bytes.
+fn body_of(alloc: Global, size: usize) -> Result<Vec<u8>, Fail> {
+    let mut body = piped(alloc, "35=B|58=")?;
+    body.resize(size.saturating_sub(1), b'x')?;
+    body.push(1)?;
+    Ok(body)
+}
+
+#[test]
+fn frames_end_at_the_limit(rt: HostRuntime) -> Result<(), Fail> {
+    let body = body_of(rt.alloc(), LONGEST_BODY)?;
+    assert_eq!(rt; frame_len(&body), 65_536);
+    let frame = frame_of(&rt, rt.alloc(), &body)?;
+    assert_eq!(rt; frame.len(), 65_536);
+    let mut cutter = Cutter::new(rt.alloc(), LONGEST_FRAME)?;
+    for byte in &frame {
+        assert_eq!(rt; cutter.next(), None);
+        assert!(rt; cutter.room() >= LEAST_ROOM);
+        cutter.feed(&[*byte]);
+    }
+    assert_eq!(rt; cutter.next(), Some(Piece::Good(&body)));
+    Ok(())
+}
+
+#[test]
+fn longer_bodies_are_too_long(rt: HostRuntime) -> Result<(), Fail> {
+    for (size, length) in [(65_512, 65_537), (99_999, 100_024), (100_000, 100_026)] {
+        let body = body_of(rt.alloc(), size)?;
+        assert_eq!(rt; frame_len(&body), length);
+        let error = frame_of(&rt, rt.alloc(), &body);
+        assert_eq!(rt; error, Err(FrameError::TooLong { length }));
+    }
+    Ok(())
+}
+
+#[test]
+fn short_limits_are_held_to(rt: HostRuntime) -> Result<(), Fail> {
+    let rows = [
+        ("8=FIX.4.4|9=10|35=0|58=x|10=242|", 1),
+        ("8=FIX.4.4|9=11|35=0|58=xx|10=107|", 33),
+    ];
+    for (text, count) in rows {
+        let bytes = piped(rt.alloc(), text)?;
+        for given in cut_parts(rt.alloc(), LEAST_LIMIT, &[bytes])? {
+            assert_eq!(rt; given.len(), count);
+        }
+    }
+    Ok(())
+}
+
+#[test]
+fn what_is_a_body(rt: HostRuntime) -> Result<(), Fail> {
+    let rows = [
+        ("35=|", true),
+        ("35=D|11=a|", true),
+        ("", false),
+        ("35=", false),
+        ("35=D", false),
+        ("|35=D|", false),
+        ("36=D|", false),
+    ];
+    for (text, wanted) in rows {
+        assert_eq!(rt; is_body(&piped(rt.alloc(), text)?), wanted, "{text}");
+    }
+    Ok(())
+}
