@@ -4,4 +4,4 @@ pub mod Told
 pub mod Lines
 pub mod Places
 pub mod Order
-pub mod PlainLists
+pub mod LawsOfLines

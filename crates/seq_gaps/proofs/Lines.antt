@@ -6,11 +6,11 @@ use Rattle.std.proofs.lemmas.Cmp.{nat_cmp_total}
 use Rattle.std.proofs.lemmas.Bool.{ne_eqb, eq-eqb, lt-leb, false≢true, cases_lt}
 use Rattle.std.specs.FinMap.{FinMap, get, insert, remove, retain_keys, len, get-empty, get-insert, get-remove, get-retain_keys, len-empty, len-insert, len-remove, nat_cmp-IsAntisymmetric}
 use Rattle.seq_gaps.specs.declared.offered.TheConstants.{MAX_NUMBER, HELD_LIMIT}
-use Rattle.seq_gaps.specs.Line.{Line, IsLine, opening, filled, cleared}
+use Rattle.seq_gaps.specs.Line.{Line, IsLine, fresh_line, after_fill, after_clear}
 use Rattle.seq_gaps.proofs.Maps.{len-retain_keys}
 
 module _ {X : Type 0} where
-  pub line_opening : IsLine (opening {T = X})
+  pub line_opening : IsLine (fresh_line {T = X})
   line_opening = record {
     from_one = omega arith;
     to_end = omega arith;
@@ -20,7 +20,7 @@ module _ {X : Type 0} where
     horizon = omega arith;
   }
 
-  pub line_cleared : (line : Line X) → IsLine line → IsLine (cleared line)
+  pub line_cleared : (line : Line X) → IsLine line → IsLine (after_clear line)
   line_cleared line p = record {
     from_one = p.from_one;
     to_end = p.to_end;
@@ -87,7 +87,7 @@ module _ {X : Type 0} where
   get-retain_below : (m : FinMap nat_cmp X) (to q : ℕ) → q < to → get (retain_keys m (nat_le to)) q ≡ None
   get-retain_below m to q l = get-retain_keys m (nat_le to) q (λ x tied. ap (nat_le to) (sym (nat_cmp-IsAntisymmetric q x tied))) ∙ rw (lt-leb to q l)
 
-  pub line_filled : (line : Line X) (to : ℕ) → IsLine line → line.expected ≤ to → to ≤ MAX_NUMBER + 1 → IsLine (filled line to)
+  pub line_filled : (line : Line X) (to : ℕ) → IsLine line → line.expected ≤ to → to ≤ MAX_NUMBER + 1 → IsLine (after_fill line to)
   line_filled line to p forward l = record {
     from_one = omega (arith, p.from_one);
     to_end = l;

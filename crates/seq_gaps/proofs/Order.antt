@@ -13,9 +13,9 @@ use Rattle.seq_gaps.specs.declared.calls.Call.{Call}
 use Rattle.seq_gaps.specs.declared.calls.Call.TheVariants.{Offer, Fill, TakeReady, Clear, Restart}
 use Rattle.seq_gaps.specs.declared.calls.Answer.{Answer}
 use Rattle.seq_gaps.specs.Line.{Line}
-use Rattle.seq_gaps.specs.Offers.{place_of, placed}
-use Rattle.seq_gaps.specs.Calls.{line_after, line_after_all, answers_to, first_offered, AreFirstOffers, OnlyOfferOrTake, HasRoom, AllHaveRoom, item_now, handed_on, IsPlainRun}
-use Rattle.seq_gaps.proofs.Places.{place-below, place-held, place-now, place-early}
+use Rattle.seq_gaps.specs.Offers.{place_of, after_placing}
+use Rattle.seq_gaps.specs.Calls.{line_after, line_after_all, answers_to, first_offered, AreFirstOffers, OnlyOfferOrTake, HasRoom, AllHaveRoom, item_now, items_handed_on, IsPlainRun}
+use Rattle.seq_gaps.proofs.Places.{offer_cases}
 
 module _ {X : Type 0} where
   -- the first of two, where it is there
@@ -39,23 +39,6 @@ module _ {X : Type 0} where
   -- what stands of each number: the held item, and else the first offer to come
   abbrev stands : Line X → List (Call X) → ℕ → Option X
   stands line calls m = or_else (get line.held m) (first_offered calls m)
-
-  -- the cases of an offer
-  offer_cases : (line : Line X) (n : ℕ) (x : X) (P : Place X → Type 0) → (n < line.expected → P (Known x)) → (is_some (get line.held n) ≡ true → P (Known x)) → (n ≡ line.expected → get line.held n ≡ None → P (Now x)) → (line.expected < n → get line.held n ≡ None → P Held) → P (NoRoom x) → P (place_of line n x)
-  offer_cases line n x P below held now early no_room =
-      elim (cases_lt n line.expected) [
-        | inl l ↦ subst P (sym (place-below line n x l)) (below l)
-        | inr m ↦ elim (get line.held n) as (λ o. get line.held n ≡ o → P (place_of line n x)) [
-          | Some y ↦ λ is. subst P (sym (place-held line n x (ap is_some is))) (held (ap is_some is))
-          | None ↦ λ is. elim (cases_eq n line.expected) [
-            | inl same ↦ subst P (sym (place-now line n x same is)) (now same is)
-            | inr other ↦
-                let e = place-early line n x (omega arith) in
-                subst P (sym (e ∙ ap (λ b. cond b (Known x) (cond (ltb (len line.held) HELD_LIMIT) Held (NoRoom x))) (ap is_some is)))
-                (elim (ltb (len line.held) HELD_LIMIT) as (λ b. P (cond b Held (NoRoom x))) [ true ↦ early (omega arith) is | false ↦ no_room ])
-          ]
-        ] refl
-      ]
 
   get-insert_is : (m : FinMap nat_cmp X) (n : ℕ) (x : X) (q : ℕ) → get (insert m n x) q ≡ cond (eqb q n) (Some x) (get m q)
   get-insert_is m n x q = get-insert nat_cmp_total m n x q ∙ ap (λ b. cond b (Some x) (get m q)) (unsigned_tied q n)
@@ -83,21 +66,21 @@ module _ {X : Type 0} where
       ]
 
   -- From any line, offers and takings that find room hand on what stands, from the expected number on.
-  law : (line : Line X) (calls : List (Call X)) → OnlyOfferOrTake calls → AllHaveRoom (answers_to line calls) → IsNone (get (line_after_all line calls).held (line_after_all line calls).expected) → AreFrom (stands line calls) line.expected (handed_on (answers_to line calls))
+  law : (line : Line X) (calls : List (Call X)) → OnlyOfferOrTake calls → AllHaveRoom (answers_to line calls) → IsNone (get (line_after_all line calls).held (line_after_all line calls).expected) → AreFrom (stands line calls) line.expected (items_handed_on (answers_to line calls))
   law line [] only room last = elim (get line.held line.expected) as (λ o. IsNone o → IsNone (or_else o None)) [ Some y ↦ λ h. h | None ↦ λ h. h ] last
   law line (Offer n x ∷ calls) only room last =
-      offer_cases line n x (λ p. HasRoom p × AllHaveRoom (answers_to (placed line n x p) calls) → IsNone (get (line_after_all (placed line n x p) calls).held (line_after_all (placed line n x p) calls).expected) → AreFrom (stands line (Offer n x ∷ calls)) line.expected (item_now p ++ handed_on (answers_to (placed line n x p) calls)))
+      offer_cases line n x (λ p. HasRoom p × AllHaveRoom (answers_to (after_placing line n x p) calls) → IsNone (get (line_after_all (after_placing line n x p) calls).held (line_after_all (after_placing line n x p) calls).expected) → AreFrom (stands line (Offer n x ∷ calls)) line.expected (item_now p ++ items_handed_on (answers_to (after_placing line n x p) calls)))
       (λ below room last. AreFrom-alike _ _ line.expected _ (λ m l. stands_known line n x calls m (λ same. absurd (omega arith))) (law line calls only room.1 last))
       (λ held room last. AreFrom-alike _ _ line.expected _ (λ m l. stands_known line n x calls m (λ same. ap (λ k. is_some (get line.held k)) same ∙ held)) (law line calls only room.1 last))
       (λ same none room last.
       let absent = ap (get line.held) (sym same) ∙ none in
       (rw (absent, eq-eqb n line.expected same), AreFrom-alike _ _ (line.expected + 1) _ (λ m l. stands_known line n x calls m (λ equal. absurd (omega arith))) (law (record { expected = line.expected + 1; held = line.held; horizon = line.horizon }) calls only room.1 last)))
-      (λ early none room last. AreFrom-alike _ _ line.expected _ (λ m l. stands_held line n x calls m none) (law (placed line n x Held) calls only room.1 last))
+      (λ early none free room last. AreFrom-alike _ _ line.expected _ (λ m l. stands_held line n x calls m none) (law (after_placing line n x Held) calls only room.1 last))
       (λ room last. absurd room.0)
       room last
   law line (TakeReady ∷ calls) only room last =
       let taken : Line X = record { expected = line.expected + 1; held = remove line.held line.expected; horizon = line.horizon } in
-      elim (get line.held line.expected) as (λ o. get line.held line.expected ≡ o → AllHaveRoom (answers_to (cond (is_some o) taken line) calls) → IsNone (get (line_after_all (cond (is_some o) taken line) calls).held (line_after_all (cond (is_some o) taken line) calls).expected) → AreFrom (stands line (TakeReady ∷ calls)) line.expected (option_to_list o ++ handed_on (answers_to (cond (is_some o) taken line) calls))) [
+      elim (get line.held line.expected) as (λ o. get line.held line.expected ≡ o → AllHaveRoom (answers_to (cond (is_some o) taken line) calls) → IsNone (get (line_after_all (cond (is_some o) taken line) calls).held (line_after_all (cond (is_some o) taken line) calls).expected) → AreFrom (stands line (TakeReady ∷ calls)) line.expected (option_to_list o ++ items_handed_on (answers_to (cond (is_some o) taken line) calls))) [
         | Some y ↦ λ is room last. (rw (is), AreFrom-alike _ _ (line.expected + 1) _ (λ m l. ap (λ o. or_else o (first_offered calls m)) (get-remove_above line.held line.expected m (omega arith))) (law taken calls only room last))
         | None ↦ λ is room last. law line calls only room last
       ] refl room last
@@ -106,7 +89,7 @@ module _ {X : Type 0} where
   law line (Restart ∷ calls) only room last = absurd only
 
   -- where nothing is held at first, what stands are the first offers
-  pub law_at_first : (line : Line X) (calls : List (Call X)) → IsPlainRun line calls (answers_to line calls) (line_after_all line calls) → AreFirstOffers calls line.expected (handed_on (answers_to line calls))
+  pub law_at_first : (line : Line X) (calls : List (Call X)) → IsPlainRun line calls (answers_to line calls) (line_after_all line calls) → AreFirstOffers calls line.expected (items_handed_on (answers_to line calls))
   law_at_first line calls run =
       first_offers calls line.expected _ (AreFrom-alike _ _ line.expected _ (λ m l. ap (λ o. or_else o (first_offered calls m)) (ap (λ (h : FinMap nat_cmp X). get h m) run.nothing_held ∙ get-empty nat_cmp m)) (law line calls run.offers_and_takings run.room run.none_ready))
 
@@ -122,7 +105,7 @@ module _ {X : Type 0} where
   line_after_all-split line (call ∷ calls) (suc k) = line_after_all-split (line_after line call) calls k
 
   -- from any call on before which nothing is held
-  pub law_from : (line : Line X) (calls : List (Call X)) (answers : List (Answer X)) (behind : Line X) (k : ℕ) → answers ≡ answers_to line calls → behind ≡ line_after_all line calls → IsPlainRun (line_after_all line (take k calls)) (drop k calls) (drop k answers) behind → AreFirstOffers (drop k calls) (line_after_all line (take k calls)).expected (handed_on (drop k answers))
+  pub law_from : (line : Line X) (calls : List (Call X)) (answers : List (Answer X)) (behind : Line X) (k : ℕ) → answers ≡ answers_to line calls → behind ≡ line_after_all line calls → IsPlainRun (line_after_all line (take k calls)) (drop k calls) (drop k answers) behind → AreFirstOffers (drop k calls) (line_after_all line (take k calls)).expected (items_handed_on (drop k answers))
   law_from line calls answers behind k a b run =
       let from = line_after_all line (take k calls) in
       let answered : drop k answers ≡ answers_to from (drop k calls) = ap (drop k) a ∙ drop-answers_to line calls k in

@@ -10,18 +10,18 @@ use Rattle.seq_gaps.specs.declared.calls.Call.{Call}
 use Rattle.seq_gaps.specs.declared.calls.Call.TheVariants.{Offer, Fill, TakeReady, Clear, Restart}
 use Rattle.seq_gaps.specs.declared.calls.Answer.{Answer}
 use Rattle.seq_gaps.specs.declared.calls.Answer.TheVariants.{ToOffer, Taken, Done}
-use Rattle.seq_gaps.specs.Line.{Line, IsNumber, opening, filled, after_taking, cleared}
-use Rattle.seq_gaps.specs.Offers.{offered, after_offer}
+use Rattle.seq_gaps.specs.Line.{Line, IsNumber, fresh_line, after_fill, after_taking, after_clear}
+use Rattle.seq_gaps.specs.Offers.{answer_to_offer, after_offer}
 
 abbrev pub line_after : {T : Type 0} → Line T → Call T → Line T
 line_after line (Offer n item) = after_offer line n item
-line_after line (Fill to) = filled line to
+line_after line (Fill to) = after_fill line to
 line_after line TakeReady = after_taking line
-line_after line Clear = cleared line
-line_after line Restart = opening
+line_after line Clear = after_clear line
+line_after line Restart = fresh_line
 
 abbrev pub answer_to : {T : Type 0} → Line T → Call T → Answer T
-answer_to line (Offer n item) = ToOffer (offered line n item)
+answer_to line (Offer n item) = ToOffer (answer_to_offer line n item)
 answer_to line (Fill to) = Done
 answer_to line TakeReady = Taken (get line.held line.expected)
 answer_to line Clear = Done
@@ -56,13 +56,13 @@ item_now Held = []
 item_now (Known item) = []
 item_now (NoRoom item) = []
 
-abbrev pub handed_by : {T : Type 0} → Answer T → List T
-handed_by (ToOffer answer) = item_now answer.place
-handed_by (Taken item) = option_to_list item
-handed_by Done = []
+abbrev pub items_of_answer : {T : Type 0} → Answer T → List T
+items_of_answer (ToOffer answer) = item_now answer.place
+items_of_answer (Taken item) = option_to_list item
+items_of_answer Done = []
 
-abbrev pub handed_on : {T : Type 0} → List (Answer T) → List T
-handed_on answers = flat_map handed_by answers
+abbrev pub items_handed_on : {T : Type 0} → List (Answer T) → List T
+items_handed_on answers = flat_map items_of_answer answers
 
 -- the item of the first offer with this number
 abbrev pub first_offered : {T : Type 0} → List (Call T) → ℕ → Option T

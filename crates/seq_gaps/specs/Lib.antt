@@ -2,4 +2,4 @@ pub mod Line
 pub mod Offers
 pub mod Calls
 pub mod Early
-pub mod Plain
+pub mod Laws

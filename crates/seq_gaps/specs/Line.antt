@@ -37,20 +37,20 @@ abbrev pub IsNotHeld : {T : Type 0} → Line T → ℕ → Type 0
 IsNotHeld line n = IsNone (get line.held n)
 
 -- before the first message, and behind a reset
-abbrev pub opening : {T : Type 0} → Line T
-opening = record { expected = 1; held = empty; horizon = 0 }
+abbrev pub fresh_line : {T : Type 0} → Line T
+fresh_line = record { expected = 1; held = empty; horizon = 0 }
 
 -- The numbers below `to` are counted as a whole. What is held of them is dropped, and what is held from `to` on stays.
-abbrev pub filled : {T : Type 0} → Line T → ℕ → Line T
-filled line to = record { expected = to; held = retain_keys line.held (nat_le to); horizon = line.horizon }
+abbrev pub after_fill : {T : Type 0} → Line T → ℕ → Line T
+after_fill line to = record line { expected = to; held = retain_keys line.held (nat_le to) }
 
 -- what is held of the expected number is handed on, and the number is counted
 abbrev pub after_taking : {T : Type 0} → Line T → Line T
 after_taking line =
     if is_some (get line.held line.expected)
-    then record { expected = line.expected + 1; held = remove line.held line.expected; horizon = line.horizon }
+    then record line { expected = line.expected + 1; held = remove line.held line.expected }
     else line
 
 -- the connection ended: nothing is held, and no gap was asked for
-abbrev pub cleared : {T : Type 0} → Line T → Line T
-cleared line = record { expected = line.expected; held = empty; horizon = 0 }
+abbrev pub after_clear : {T : Type 0} → Line T → Line T
+after_clear line = record line { held = empty; horizon = 0 }

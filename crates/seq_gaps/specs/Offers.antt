@@ -16,6 +16,13 @@ place_of line n item =
     else (if nat_lt (len line.held) HELD_LIMIT then Held
     else NoRoom item))
 
+-- how many more are held behind an offer with this answer
+abbrev pub more_held : {T : Type 0} → Place T → ℕ
+more_held (Now item) = 0
+more_held Held = 1
+more_held (Known item) = 0
+more_held (NoRoom item) = 0
+
 -- the numbers below n that are expected and beyond the horizon, where there are any
 abbrev pub gap_below : {T : Type 0} → Line T → ℕ → Option Gap
 gap_below line n =
@@ -29,17 +36,17 @@ gap_shown line n Held = gap_below line n
 gap_shown line n (Known item) = None
 gap_shown line n (NoRoom item) = None
 
-abbrev pub offered : {T : Type 0} → Line T → ℕ → T → Offered T
-offered line n item =
+abbrev pub answer_to_offer : {T : Type 0} → Line T → ℕ → T → Offered T
+answer_to_offer line n item =
     let place = place_of line n item in
     record { place = place; gap = gap_shown line n place }
 
 -- A number that is carried out is counted. A held item stays with its number, and the horizon is never below it.
-abbrev pub placed : {T : Type 0} → Line T → ℕ → T → Place T → Line T
-placed line n item (Now _) = record { expected = line.expected + 1; held = line.held; horizon = line.horizon }
-placed line n item Held = record { expected = line.expected; held = insert line.held n item; horizon = max line.horizon n }
-placed line n item (Known _) = line
-placed line n item (NoRoom _) = line
+abbrev pub after_placing : {T : Type 0} → Line T → ℕ → T → Place T → Line T
+after_placing line n item (Now _) = record line { expected = line.expected + 1 }
+after_placing line n item Held = record line { held = insert line.held n item; horizon = max line.horizon n }
+after_placing line n item (Known _) = line
+after_placing line n item (NoRoom _) = line
 
 abbrev pub after_offer : {T : Type 0} → Line T → ℕ → T → Line T
-after_offer line n item = placed line n item (place_of line n item)
+after_offer line n item = after_placing line n item (place_of line n item)

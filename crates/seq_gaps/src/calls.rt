@@ -1,5 +1,5 @@
 ghost use Rattle.std.specs.Prelude.{◌≡◌, ℕ, IfOk, OnOk, OnErr, take, drop};
-ghost use Rattle.seq_gaps.specs.Calls.{IsAllowed, AreAllowed, line_after, line_after_all, answer_to, answers_to, IsPlainRun, AreFirstOffers, handed_on};
+ghost use Rattle.seq_gaps.specs.Calls.{IsAllowed, AreAllowed, line_after, line_after_all, answer_to, answers_to, IsPlainRun, AreFirstOffers, items_handed_on};
 
 use super::{Expect, Offered};
 use gate_io::NoMemory;
@@ -40,7 +40,7 @@ pub fn make_calls<T: Drop>(
     // first expected one up to the first number without an offer, the item offered first with it.
     ensures in_order { IfOk result (λ answers. (k : ℕ) →
         IsPlainRun (line_after_all line.old (take k calls.items)) (drop k calls.items) (drop k answers.items) line.new →
-        AreFirstOffers (drop k calls.items) (line_after_all line.old (take k calls.items)).expected (handed_on (drop k answers.items))) }
+        AreFirstOffers (drop k calls.items) (line_after_all line.old (take k calls.items)).expected (items_handed_on (drop k answers.items))) }
     ensures err { OnErr result (line.new ≡ line.old) }
 {
     let mut answers = Vec::with_capacity(alloc, calls.len())?;

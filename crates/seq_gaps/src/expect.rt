@@ -1,7 +1,7 @@
 ghost use Rattle.std.specs.Prelude.{◌≡◌, ℕ, ◌+◌, ◌<◌, ◌≤◌, ◌↔◌, ◌⊎◌, IfOk, IsSome, IsNone, Option, None, Some};
 ghost use Rattle.std.specs.FinMap as map;
-ghost use Rattle.seq_gaps.specs.Line.{IsNumber, IsLine, IsHeld, IsNotHeld, opening, filled, after_taking, cleared};
-ghost use Rattle.seq_gaps.specs.Offers.{offered, after_offer, gap_below};
+ghost use Rattle.seq_gaps.specs.Line.{IsNumber, IsLine, IsHeld, IsNotHeld, fresh_line, after_fill, after_taking, after_clear};
+ghost use Rattle.seq_gaps.specs.Offers.{answer_to_offer, after_offer, gap_below, more_held};
 
 use super::held::Held;
 use super::{Gap, HELD_LIMIT, MAX_NUMBER, Offered, Place};
@@ -35,7 +35,8 @@ impl<T> Model for Expect<T> {
 impl<T> Expect<T> {
     /// A line that expects number 1, with nothing held.
     pub fn new(alloc: Global) -> Result<Expect<T>, NoMemory>
-        ensures { IfOk result (λ line. line ≡ opening) }
+        ensures line { IfOk result (λ line. line ≡ fresh_line) }
+        ensures held { IfOk result (λ line. map.len line.held ≡ 0) }
     {
         Ok(Expect {
             expected: 1,
@@ -57,7 +58,7 @@ impl<T> Expect<T> {
         requires { IsNumber n }
 
         // The answer and the line behind it, exactly.
-        ensures answer { result ≡ offered self.old n item }
+        ensures answer { result ≡ answer_to_offer self.old n item }
         ensures line { self.new ≡ after_offer self.old n item }
 
         // When each place comes.
@@ -69,6 +70,9 @@ impl<T> Expect<T> {
         // A gap is named only as an item is held: the numbers below it that no gap was asked for yet.
         ensures gap { result.place ≡ Place.Held → result.gap ≡ gap_below self.old n }
         ensures gap_only_held { IsSome result.gap → result.place ≡ Place.Held }
+
+        // One more is held where it is held, and else no more.
+        ensures count { map.len self.new.held ≤ map.len self.old.held + more_held result.place }
     {
         if n > self.expected {
             return self.offer_early(n, item);
@@ -89,8 +93,9 @@ impl<T> Expect<T> {
     fn offer_early(&mut self, n: u32, item: T) -> Offered<T>
         requires number { IsNumber n }
         requires early { self.old.expected < n }
-        ensures answer { result ≡ offered self.old n item }
+        ensures answer { result ≡ answer_to_offer self.old n item }
         ensures line { self.new ≡ after_offer self.old n item }
+        ensures count { map.len self.new.held ≤ map.len self.old.held + more_held result.place }
     {
         let gap = self.gap_below(n);
         let place = self.held.hold(n, item);
@@ -119,6 +124,7 @@ impl<T> Expect<T> {
     pub fn take_ready(&mut self) -> Option<T>
         ensures item { result ≡ map.get self.old.held self.old.expected }
         ensures line { self.new ≡ after_taking self.old }
+        ensures count { IsSome result → map.len self.new.held < map.len self.old.held }
     {
         let item = self.held.take_first(self.expected)?;
         self.expected += 1;
@@ -132,7 +138,8 @@ impl<T: Drop> Expect<T> {
     pub fn fill(&mut self, to: u32)
         requires forward { self.old.expected ≤ to }
         requires to_end { to ≤ MAX_NUMBER + 1 }
-        ensures { self.new ≡ filled self.old to }
+        ensures line { self.new ≡ after_fill self.old to }
+        ensures count { map.len self.new.held ≤ map.len self.old.held }
     {
         self.held.drop_below(to);
         self.expected = to;
@@ -141,7 +148,8 @@ impl<T: Drop> Expect<T> {
     /// Drops what is held, as the connection ended. The expected number stays, and gaps are asked
     /// for anew.
     pub fn clear(&mut self)
-        ensures { self.new ≡ cleared self.old }
+        ensures line { self.new ≡ after_clear self.old }
+        ensures count { map.len self.new.held ≡ 0 }
     {
         self.held.clear();
         self.horizon = 0;
@@ -149,7 +157,8 @@ impl<T: Drop> Expect<T> {
 
     /// Begins again at number 1 with nothing held, as at a Logon with ResetSeqNumFlag (141) of Y.
     pub fn restart(&mut self)
-        ensures { self.new ≡ opening }
+        ensures line { self.new ≡ fresh_line }
+        ensures count { map.len self.new.held ≡ 0 }
     {
         self.clear();
         self.expected = 1;

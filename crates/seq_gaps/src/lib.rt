@@ -10,11 +10,8 @@
 mod calls;
 mod expect;
 mod held;
+pub mod laws;
 mod offered;
-#[cfg(test)]
-mod plain;
-#[cfg(test)]
-mod tests;
 
 pub use calls::{Answer, Call, make_calls};
 pub use expect::Expect;

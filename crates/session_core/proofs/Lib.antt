@@ -1,7 +1,12 @@
+pub mod AdminTexts
 pub mod Drains
 pub mod Dues
-pub mod Heard
-pub mod Moments
-pub mod Left
 pub mod Forward
+pub mod Good
+pub mod Heard
+pub mod Left
+pub mod Moments
+pub mod Parts
 pub mod Prefixes
+pub mod StepFacts
+pub mod States

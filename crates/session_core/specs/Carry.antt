@@ -7,8 +7,8 @@ use Rattle.seq_gaps.specs.declared.offered.Place.{Place}
 use Rattle.seq_gaps.specs.declared.offered.Place.TheVariants.{Now, Held, Known, NoRoom}
 use Rattle.seq_gaps.specs.declared.offered.Offered.{Offered}
 use Rattle.seq_gaps.specs.declared.offered.TheConstants.{MAX_NUMBER, HELD_LIMIT}
-use Rattle.seq_gaps.specs.Line.{Line, IsNumber, filled, after_taking}
-use Rattle.seq_gaps.specs.Offers.{offered, after_offer}
+use Rattle.seq_gaps.specs.Line.{Line, IsNumber, after_clear, after_fill, after_taking}
+use Rattle.seq_gaps.specs.Offers.{answer_to_offer, after_offer}
 use Rattle.session_core.specs.declared.acts.Act.{Act}
 use Rattle.session_core.specs.declared.acts.Act.TheVariants.{Accept, Send}
 use Rattle.session_core.specs.declared.acts.Admin.{Admin}
@@ -25,40 +25,40 @@ pub record Progress : Type 0 where
   pub acts : List Act
 
 abbrev pub with_act : Progress → Act → Progress
-with_act p act = record { line = p.line; acts = p.acts ++ act ∷ [] }
+with_act p act = record p { acts = p.acts ++ act ∷ [] }
 
 -- the numbers below `to` are counted, where that goes forward
-unfoldable pub filled_to : Line Task → ℕ → Line Task
-filled_to line to = if nat_le line.expected to && nat_le to (MAX_NUMBER + 1) then filled line to else line
+unfoldable pub after_fill_to : Line Task → ℕ → Line Task
+after_fill_to line to = if nat_le line.expected to && nat_le to (MAX_NUMBER + 1) then after_fill line to else line
 
 -- what a message asks for on its number is carried out
-abbrev pub carried : Progress → Task → Progress
-carried p Nothing = p
-carried p (Do act) = with_act p act
-carried p (Fill to) = record { line = filled_to p.line to; acts = p.acts }
+abbrev pub after_carrying : Progress → Task → Progress
+after_carrying p Nothing = p
+after_carrying p (Do act) = with_act p act
+after_carrying p (Fill to) = record p { line = after_fill_to p.line to }
 
 -- what is held of the expected number is taken, and goes on where there was something
-abbrev pub taken : Progress → Progress
-taken p = record { line = after_taking p.line; acts = p.acts }
+abbrev pub after_ready : Progress → Progress
+after_ready p = record p { line = after_taking p.line }
 
 abbrev pub while_ready : (Progress → Progress) → Progress → Option Task → Progress
 while_ready go_on p None = p
-while_ready go_on p (Some task) = go_on (carried (taken p) task)
+while_ready go_on p (Some task) = go_on (after_carrying (after_ready p) task)
 
 -- Each held message whose number is the expected one is counted and carried out, in order; at most so many.
-unfoldable pub drained : ℕ → Progress → Progress
-drained zero p = p
-drained (suc most) p = while_ready (drained most) p (get p.line.held p.line.expected)
+unfoldable pub after_draining : ℕ → Progress → Progress
+after_draining zero p = p
+after_draining (suc most) p = while_ready (after_draining most) p (get p.line.held p.line.expected)
 
 -- a gap is asked for
-abbrev pub asked_for : List Act → Option Gap → List Act
-asked_for acts None = acts
-asked_for acts (Some gap) = acts ++ Send (ResendRequest gap.from gap.to) ∷ []
+abbrev pub with_request : List Act → Option Gap → List Act
+with_request acts None = acts
+with_request acts (Some gap) = acts ++ Send (ResendRequest gap.from gap.to) ∷ []
 
 -- On its number a message is carried out, and then those held behind it. An early one is held while there is room.
 abbrev pub on_place : Progress → Offered Task → Place Task → Progress
-on_place p answer (Now task) = drained HELD_LIMIT (carried p task)
-on_place p answer Held = record { line = p.line; acts = asked_for p.acts answer.gap }
+on_place p answer (Now task) = after_draining HELD_LIMIT (after_carrying p task)
+on_place p answer Held = record p { acts = with_request p.acts answer.gap }
 on_place p answer (Known task) = p
 on_place p answer (NoRoom task) = p
 
@@ -66,23 +66,23 @@ abbrev pub on_offer : Progress → Offered Task → Progress
 on_offer p answer = on_place p answer answer.place
 
 -- a message is offered to the line with its number and what it asks for
-unfoldable pub handled : Progress → ℕ → Task → Progress
-handled p n task =
-    on_offer (record { line = after_offer p.line n task; acts = p.acts }) (offered p.line n task)
+unfoldable pub after_handling : Progress → ℕ → Task → Progress
+after_handling p n task =
+    on_offer (record p { line = after_offer p.line n task }) (answer_to_offer p.line n task)
 
-abbrev pub closing : Option Admin → Admin → List Act
-closing None last = Send last ∷ []
-closing (Some first) last = Send first ∷ Send last ∷ []
+abbrev pub closing_acts : Option Admin → Admin → List Act
+closing_acts None last = Send last ∷ []
+closing_acts (Some first) last = Send first ∷ Send last ∷ []
 
--- the line and the acts behind a step, for a message with this body
+-- The line and the acts behind a step, for a message with this body. A step that ends the connection drops what is held.
 abbrev pub after_step : Line Task → Step → List ℕ → Progress
 after_step line Ignore body = record { line = line; acts = [] }
 after_step line (Refuse reject) body = record { line = line; acts = Send reject ∷ [] }
 after_step line (Close first last cause counts) body =
-    record { line = if counts then filled_to line (line.expected + 1) else line; acts = closing first last }
-after_step line (Move to) body = drained HELD_LIMIT (record { line = filled_to line to; acts = [] })
-after_step line (Deliver n) body = handled (record { line = line; acts = [] }) n (Do (Accept body))
-after_step line (Handle n at_once task) body = handled (record { line = line; acts = option_to_list at_once }) n task
+    record { line = after_clear (if counts then after_fill_to line (line.expected + 1) else line); acts = closing_acts first last }
+after_step line (Move to) body = after_draining HELD_LIMIT (record { line = after_fill_to line to; acts = [] })
+after_step line (Deliver n) body = after_handling (record { line = line; acts = [] }) n (Do (Accept body))
+after_step line (Handle n at_once task) body = after_handling (record { line = line; acts = option_to_list at_once }) n task
 
 -- the cause by which a step ends the connection
 abbrev pub end_of : Step → Option Cause

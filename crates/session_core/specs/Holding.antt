@@ -16,10 +16,3 @@ is_held (Now item) = false
 is_held Held = true
 is_held (Known item) = false
 is_held (NoRoom item) = false
-
--- how many more are held behind an offer with this answer
-abbrev pub more_held : {T : Type 0} → Place T → ℕ
-more_held (Now item) = 0
-more_held Held = 1
-more_held (Known item) = 0
-more_held (NoRoom item) = 0

@@ -1,7 +1,10 @@
 -- What the contracts speak of.
 pub mod Admin
+pub mod Ask
 pub mod Carry
 pub mod Holding
+pub mod Laws
+pub mod Lines
 pub mod Receive
 pub mod Replies
 pub mod Route
@@ -9,4 +12,5 @@ pub mod Runs
 pub mod Said
 pub mod State
 pub mod Steps
+pub mod Tasks
 pub mod Tick

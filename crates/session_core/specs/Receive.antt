@@ -1,13 +1,13 @@
 -- What follows from a message, and the session behind it.
-use Rattle.std.specs.Prelude.{ℕ, nat_lt, Bool, true, false, List, [], ◌∷◌, Option, None, Some, if◌then◌else◌}
+use Rattle.std.specs.Prelude.{ℕ, nat_lt, Bool, true, false, List, [], ◌∷◌, Option, None, Some, Result, Ok, Err, if◌then◌else◌}
 use Rattle.std.specs.List.{list_any}
 use Rattle.std.specs.Result.{result_ok}
 use Rattle.fix_fields.specs.Field.{Field}
 use Rattle.fix_fields.specs.Reading.{fields_of}
-use Rattle.seq_gaps.specs.Line.{Line, opening}
-use Rattle.session_core.specs.Carry.{Progress, handled, after_step, end_of}
+use Rattle.seq_gaps.specs.Line.{Line, fresh_line}
+use Rattle.session_core.specs.Carry.{Progress, after_handling, after_step, end_of}
 use Rattle.session_core.specs.Replies.{low_text}
-use Rattle.session_core.specs.Route.{terms_of}
+use Rattle.session_core.specs.Route.{terms_of, answer_in}
 use Rattle.session_core.specs.State.{State}
 use Rattle.session_core.specs.Steps.{step_of}
 use Rattle.session_core.specs.declared.acts.Act.{Act}
@@ -15,9 +15,10 @@ use Rattle.session_core.specs.declared.acts.Act.TheVariants.{Accept, Send, Resen
 use Rattle.session_core.specs.declared.acts.Admin.TheVariants.{Logon, Logout}
 use Rattle.session_core.specs.declared.acts.Effects.{Effects}
 use Rattle.session_core.specs.declared.names.Names.{Names}
+use Rattle.session_core.specs.declared.causes.Cause.{Cause}
 use Rattle.session_core.specs.declared.causes.Cause.TheVariants.{LowNumber}
 use Rattle.session_core.specs.declared.phases.Phase.{Phase}
-use Rattle.session_core.specs.declared.phases.Phase.TheVariants.{Off, On}
+use Rattle.session_core.specs.declared.phases.Phase.TheVariants.{Off, Asked, On}
 use Rattle.session_core.specs.declared.routing.Terms.{Terms}
 use Rattle.session_core.specs.declared.steps.Step.{Step}
 use Rattle.session_core.specs.declared.tasks.Task.{Task}
@@ -34,15 +35,15 @@ abbrev pub no_effects : Effects
 no_effects = record { acts = []; end = None }
 
 -- a message that can't be read counts for nothing
-abbrev pub unheard : State → Outcome
-unheard state = record { phase = state.phase; line = state.line; effects = no_effects; heard = false }
+abbrev pub outcome_unread : State → Outcome
+outcome_unread state = record { phase = state.phase; line = state.line; effects = no_effects; heard = false }
 
 -- the number that is expected of a Logon: 1 where it resets both sides' numbers
 abbrev pub expected_at : Line Task → Terms → ℕ
 expected_at line terms = if terms.reset then 1 else line.expected
 
 abbrev pub line_at : Line Task → Terms → Line Task
-line_at line terms = if terms.reset then opening else line
+line_at line terms = if terms.reset then fresh_line else line
 
 -- the Logon that answers, behind the reset that was asked for
 abbrev pub greeting : Terms → List Act
@@ -53,30 +54,35 @@ greeting terms =
 abbrev pub low_effects : ℕ → ℕ → Effects
 low_effects expected got = record { acts = Send (Logout (Some (low_text expected got))) ∷ []; end = Some (LowNumber expected got) }
 
-abbrev pub turned_away : Line Task → Terms → Outcome
-turned_away line terms =
+abbrev pub outcome_of_low : Line Task → Terms → Outcome
+outcome_of_low line terms =
     record { phase = Off; line = line; effects = low_effects (expected_at line terms) terms.number; heard = true }
 
 -- the Logon is answered, and its own number goes to the line with nothing left to do
-abbrev pub welcomed : Line Task → Terms → Outcome
-welcomed line terms =
-    let p = handled (record { line = line_at line terms; acts = greeting terms }) terms.number Nothing in
+abbrev pub outcome_of_welcome : Line Task → Terms → Outcome
+outcome_of_welcome line terms =
+    let p = after_handling (record { line = line_at line terms; acts = greeting terms }) terms.number Nothing in
     record { phase = On terms.heart; line = p.line; effects = record { acts = p.acts; end = None }; heard = true }
 
-unfoldable pub logged_on : Line Task → Terms → Outcome
-logged_on line terms =
-    if nat_lt terms.number (expected_at line terms) then turned_away line terms else welcomed line terms
+unfoldable pub outcome_of_logon : Line Task → Terms → Outcome
+outcome_of_logon line terms =
+    if nat_lt terms.number (expected_at line terms) then outcome_of_low line terms else outcome_of_welcome line terms
 
 -- the terms of a Logon that can be read and that nothing refuses
 abbrev pub terms_in : Option (List Field) → Option Terms
 terms_in None = None
 terms_in (Some fields) = result_ok (terms_of fields)
 
+-- a session that dials isn't bound by a connection that comes
+abbrev pub terms_for : Option ℕ → Option (List Field) → Option Terms
+terms_for None fields = terms_in fields
+terms_for (Some heart) fields = None
+
 -- The first message of a connection. One that isn't a lawful Logon counts for nothing here: such a connection is never
 -- bound.
-abbrev pub on_terms : State → Option Terms → Outcome
-on_terms state None = unheard state
-on_terms state (Some terms) = logged_on state.line terms
+abbrev pub outcome_of_terms : State → Option Terms → Outcome
+outcome_of_terms state None = outcome_unread state
+outcome_of_terms state (Some terms) = outcome_of_logon state.line terms
 
 -- the step of a message that can be read
 abbrev pub step_in : Names → ℕ → Option (List Field) → Option Step
@@ -84,19 +90,43 @@ step_in names expected None = None
 step_in names expected (Some fields) = Some (step_of names expected fields)
 
 -- a message on a bound session
-abbrev pub on_step : State → List ℕ → Option Step → Outcome
-on_step state body None = unheard state
-on_step state body (Some step) =
+abbrev pub outcome_of_step : State → List ℕ → Option Step → Outcome
+outcome_of_step state body None = outcome_unread state
+outcome_of_step state body (Some step) =
     let p = after_step state.line step body in
     record { phase = state.phase; line = p.line; effects = record { acts = p.acts; end = end_of step }; heard = true }
 
-abbrev pub in_phase : Phase → State → List ℕ → Option (List Field) → Outcome
-in_phase Off state body fields = on_terms state (terms_in fields)
-in_phase (On heart) state body fields = on_step state body (step_in state.names state.line.expected fields)
+-- the answer to the session's own Logon is refused: the connection ends with nothing sent, and the answer is still due
+abbrev pub outcome_of_refusal : State → Cause → Outcome
+outcome_of_refusal state cause = record (outcome_unread state) { effects = record { acts = []; end = Some cause } }
+
+-- A low number is answered with a Logout. Any other goes to the line with nothing left to do.
+abbrev pub outcome_of_low_answer : Line Task → ℕ → ℕ → Outcome
+outcome_of_low_answer line heart n =
+    record { phase = On heart; line = line; effects = low_effects line.expected n; heard = true }
+
+abbrev pub outcome_of_good_answer : Line Task → ℕ → ℕ → Outcome
+outcome_of_good_answer line heart n =
+    let p = after_handling (record { line = line; acts = [] }) n Nothing in
+    record { phase = On heart; line = p.line; effects = record { acts = p.acts; end = None }; heard = true }
+
+unfoldable pub outcome_of_answer : Line Task → ℕ → ℕ → Outcome
+outcome_of_answer line heart n =
+    if nat_lt n line.expected then outcome_of_low_answer line heart n else outcome_of_good_answer line heart n
+
+-- the first message behind the session's own Logon
+abbrev pub outcome_asked : State → ℕ → Result ℕ Cause → Outcome
+outcome_asked state heart (Ok n) = outcome_of_answer state.line heart n
+outcome_asked state heart (Err cause) = outcome_of_refusal state cause
+
+abbrev pub outcome_in : Phase → State → List ℕ → Option (List Field) → Outcome
+outcome_in Off state body fields = outcome_of_terms state (terms_for state.dials fields)
+outcome_in (Asked heart) state body fields = outcome_asked state heart (answer_in state.names heart fields)
+outcome_in (On heart) state body fields = outcome_of_step state body (step_in state.names state.line.expected fields)
 
 -- what follows from a message with this body
 unfoldable pub outcome : State → List ℕ → Outcome
-outcome state body = in_phase state.phase state body (result_ok (fields_of body))
+outcome state body = outcome_in state.phase state body (result_ok (fields_of body))
 
 abbrev pub is_send : Act → Bool
 is_send (Accept body) = false
@@ -106,10 +136,10 @@ is_send Reset = false
 
 -- The session behind a message that came at the moment: a message that is heard sets the moment of the last receipt and
 -- ends the wait for an answer to a TestRequest.
-abbrev pub stamped : State → Outcome → ℕ → State
-stamped state o moment =
+abbrev pub after_outcome : State → Outcome → ℕ → State
+after_outcome state o moment =
     if o.heard
-    then record { names = state.names; phase = o.phase; line = o.line; received = moment; sent = if list_any is_send o.effects.acts then moment else state.sent; waiting = None }
+    then record state { phase = o.phase; line = o.line; received = moment; sent = if list_any is_send o.effects.acts then moment else state.sent; waiting = None }
     else state
 
 -- the acts and the end
@@ -117,4 +147,4 @@ abbrev pub receive : State → List ℕ → ℕ → Effects
 receive state body moment = (outcome state body).effects
 
 abbrev pub after_receive : State → List ℕ → ℕ → State
-after_receive state body moment = stamped state (outcome state body) moment
+after_receive state body moment = after_outcome state (outcome state body) moment

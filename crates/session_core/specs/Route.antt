@@ -6,7 +6,7 @@ use Rattle.fix_fields.specs.Reading.{first_value}
 use Rattle.seq_gaps.specs.Line.{IsNumber}
 use Rattle.session_core.specs.Said.{has_value, has_names, heart_of, seq_num_of}
 use Rattle.session_core.specs.declared.causes.Cause.{Cause}
-use Rattle.session_core.specs.declared.causes.Cause.TheVariants.{NotLogon, NoSuchSession, BadLogon, NoNumber}
+use Rattle.session_core.specs.declared.causes.Cause.TheVariants.{NotLogon, NoSuchSession, BadLogon, NoNumber, CompId}
 use Rattle.session_core.specs.declared.names.Names.{Names}
 use Rattle.session_core.specs.declared.routing.Terms.{Terms}
 use Rattle.session_core.specs.declared.said.TheConstants.{LONGEST_HEARTBEAT}
@@ -37,7 +37,31 @@ terms_of fields =
     demand (not (asks_reset fields) || number == 1) (BadLogon 34)
     (Ok (record { heart = heart; number = number; reset = asks_reset fields }))))))
 
--- what holds of them
+-- ResetSeqNumFlag (141) is missing or N
+unfoldable pub has_no_reset : List Field → Bool
+has_no_reset fields = is_none (first_value 141 fields) || has_value 141 (codes "N") fields
+
+-- HeartBtInt (108) is this number
+unfoldable pub has_heart : ℕ → List Field → Bool
+has_heart heart fields = option_map_or (λ found. found == heart) (heart_of fields) false
+
+-- the MsgSeqNum of the Logon that answers the session's own with this HeartBtInt, or the first cause that refuses it
+unfoldable pub answer_of : Names → ℕ → List Field → Result ℕ Cause
+answer_of names heart fields =
+    demand (has_value 35 (codes "A") fields) NotLogon
+    (demand (has_value 49 names.them fields) (CompId 49)
+    (demand (has_value 56 names.us fields) (CompId 56)
+    (demand (has_value 98 (codes "0") fields) (BadLogon 98)
+    (demand (has_heart heart fields) (BadLogon 108)
+    (demand (has_no_reset fields) (BadLogon 141)
+    (demand_some (seq_num_of fields) NoNumber (λ number. Ok number)))))))
+
+-- an answer whose fields can't be read is no Logon
+abbrev pub answer_in : Names → ℕ → Option (List Field) → Result ℕ Cause
+answer_in names heart None = Err NotLogon
+answer_in names heart (Some fields) = answer_of names heart fields
+
+-- what holds of the terms
 pub record AreTerms (terms : Terms) : Type 0 where
   pub heart : terms.heart ≤ LONGEST_HEARTBEAT
   pub number : IsNumber terms.number

@@ -5,7 +5,9 @@ use Rattle.std.specs.Cmp.Lexicographic.{pointwise}
 use Rattle.fix_fields.specs.Field.{Field}
 use Rattle.fix_fields.specs.Number.{number_of}
 use Rattle.fix_fields.specs.Reading.{first_value}
+use Rattle.seq_gaps.specs.declared.offered.TheConstants.{MAX_NUMBER}
 use Rattle.session_core.specs.declared.names.Names.{Names}
+use Rattle.session_core.specs.declared.said.TheConstants.{LONGEST_HEARTBEAT}
 
 -- the field has this value
 abbrev pub has_value : ℕ → List ℕ → List Field → Bool
@@ -22,15 +24,15 @@ number_between least most (Some bytes) = option_map_or (λ n. if nat_le least n 
 
 -- HeartBtInt (108) in seconds, at most a day
 unfoldable pub heart_of : List Field → Option ℕ
-heart_of fields = number_between 0 86400 (first_value 108 fields)
+heart_of fields = number_between 0 LONGEST_HEARTBEAT (first_value 108 fields)
 
 -- MsgSeqNum (34)
 unfoldable pub seq_num_of : List Field → Option ℕ
-seq_num_of fields = number_between 1 999999999 (first_value 34 fields)
+seq_num_of fields = number_between 1 MAX_NUMBER (first_value 34 fields)
 
 -- NewSeqNo (36)
 unfoldable pub new_seq_no_of : List Field → Option ℕ
-new_seq_no_of fields = number_between 1 999999999 (first_value 36 fields)
+new_seq_no_of fields = number_between 1 MAX_NUMBER (first_value 36 fields)
 
 -- MsgType (35)
 abbrev pub type_of : List Field → List ℕ

@@ -1,7 +1,7 @@
 -- Which rule a message on a bound session comes under: the first that applies (FIX 4.4, volume 2, "Session Protocol").
 use Rattle.std.specs.Prelude.{ℕ, ◌==◌, nat_lt, Bool, true, false, not, ◌&&◌, ◌||◌, List, codes, Option, None, Some, Result, Ok, Err, if◌then◌else◌}
 use Rattle.fix_fields.specs.Field.{Field}
-use Rattle.session_core.specs.Replies.{rejected, test_answer, resend_answer, new_number, gap_fill, low_text, no_number_text}
+use Rattle.session_core.specs.Replies.{reject_for, test_answer, resend_answer, new_number, gap_fill, low_text, no_number_text}
 use Rattle.session_core.specs.Said.{has_value, seq_num_of}
 use Rattle.session_core.specs.declared.acts.Act.TheVariants.{Send}
 use Rattle.session_core.specs.declared.acts.Admin.{Admin}
@@ -25,8 +25,8 @@ wrong_name names fields =
     else (if not (has_value 56 names.us fields) then Some 56 else None)
 
 -- it is rejected, and counted where it has the expected number; nothing is carried out
-unfoldable pub misnamed : ℕ → ℕ → List Field → ℕ → Step
-misnamed expected n fields tag = Close (Some (rejected n fields tag 9)) (Logout None) (CompId tag) (n == expected)
+unfoldable pub wrong_comp_id : ℕ → ℕ → List Field → ℕ → Step
+wrong_comp_id expected n fields tag = Close (Some (reject_for n fields tag 9)) (Logout None) (CompId tag) (n == expected)
 
 -- a SequenceReset (type 4) without GapFillFlag (123) Y
 unfoldable pub is_reset : List Field → Bool
@@ -79,7 +79,7 @@ by_number expected n fields =
     else (if nat_lt expected n then early n fields else on_time n fields)
 
 abbrev pub by_name : ℕ → ℕ → List Field → Option ℕ → Step
-by_name expected n fields (Some tag) = misnamed expected n fields tag
+by_name expected n fields (Some tag) = wrong_comp_id expected n fields tag
 by_name expected n fields None = if is_reset fields then reset expected n fields else by_number expected n fields
 
 abbrev pub by_seq_num : Names → ℕ → List Field → Option ℕ → Step

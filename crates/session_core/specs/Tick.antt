@@ -6,7 +6,8 @@ use Rattle.session_core.specs.declared.acts.Admin.TheVariants.{Heartbeat, TestRe
 use Rattle.session_core.specs.declared.acts.Effects.{Effects}
 use Rattle.session_core.specs.declared.causes.Cause.TheVariants.{Silent}
 use Rattle.session_core.specs.declared.phases.Phase.{Phase}
-use Rattle.session_core.specs.declared.phases.Phase.TheVariants.{Off, On}
+use Rattle.session_core.specs.declared.phases.Phase.TheVariants.{Off, Asked, On}
+use Rattle.session_core.specs.declared.ticks.TheConstants.{ANSWER_WAIT}
 use Rattle.session_core.specs.declared.ticks.Tick.{Tick}
 use Rattle.session_core.specs.declared.ticks.Tick.TheVariants.{Quiet, Beat, Test, Expire}
 
@@ -20,13 +21,15 @@ abbrev pub alive : State → ℕ → ℕ → Option ℕ → Tick
 alive state heart moment (Some since) = if nat_le (since + 1000 * heart) moment then Expire else beat state heart moment
 alive state heart moment None = if nat_le (state.received + 1200 * heart) moment then Test else beat state heart moment
 
--- only a session with a HeartBtInt above 0 whose Logon was answered has ticks
-abbrev pub in_phase : State → ℕ → Phase → Tick
-in_phase state moment Off = Quiet
-in_phase state moment (On heart) = if heart == 0 then Quiet else alive state heart moment state.waiting
+-- A session that waits for the answer to its Logon waits so long. One whose Logon was answered has ticks where its
+-- HeartBtInt is above 0.
+abbrev pub tick_in : State → ℕ → Phase → Tick
+tick_in state moment Off = Quiet
+tick_in state moment (Asked heart) = if nat_le (state.received + ANSWER_WAIT) moment then Expire else Quiet
+tick_in state moment (On heart) = if heart == 0 then Quiet else alive state heart moment state.waiting
 
 unfoldable pub tick_of : State → ℕ → Tick
-tick_of state moment = in_phase state moment state.phase
+tick_of state moment = tick_in state moment state.phase
 
 abbrev pub effects_at : State → Tick → Effects
 effects_at state Quiet = record { acts = []; end = None }

@@ -1,3 +1,6 @@
+ghost use Rattle.std.specs.Prelude.{◌≡◌};
+ghost use Rattle.session_core.specs.Admin.{is_session_entry};
+
 use crate::causes::Cause;
 use gate_io::{Bytes, Rows};
 
@@ -31,6 +34,18 @@ pub enum Admin {
     Logout {
         text: Option<Bytes>,
     },
+}
+
+/// Whether a session message that stands in the outbound log is passed over by a gap fill as it is
+/// asked for again: each one but a Reject, which is sent again as an application's message is.
+pub fn is_session_entry(admin: &Admin) -> bool
+    ensures { result ≡ is_session_entry admin.now }
+{
+    match admin {
+        Admin::Reject { .. } => false,
+        Admin::Logon { .. } | Admin::Heartbeat { .. } | Admin::TestRequest => true,
+        Admin::ResendRequest { .. } | Admin::Logout { .. } => true,
+    }
 }
 
 /// What follows from a message or from the clock.

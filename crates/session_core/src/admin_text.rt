@@ -1,7 +1,9 @@
 //! The bodies of the session messages that are sent: the type field, and what follows the header.
 
-ghost use Rattle.std.specs.Prelude.{◌≡◌, ◌++◌, IfOk, OnOk};
-ghost use Rattle.session_core.specs.Admin.{field, number_field, admin_text, logon_text, heartbeat_text, test_request_text, resend_request_text, reject_text, logout_text};
+ghost use Rattle.std.specs.Prelude.{◌≡◌, ◌<◌, ◌≤◌, ◌^◌, ◌++◌, length, IfOk, OnOk};
+ghost use Rattle.fix_frame.specs.Frame.{IsBody};
+ghost use Rattle.session_core.specs.Tasks.{HasShortTexts, is_tick};
+ghost use Rattle.session_core.specs.Admin.{field_text, number_field_text, admin_text, is_tick_text, logon_text, heartbeat_text, test_request_text, resend_request_text, reject_text, logout_text};
 
 use crate::acts::Admin;
 use gate_io::{Bytes, NoMemory};
@@ -12,11 +14,19 @@ use std::alloc::Global;
 const SOH: u8 = 1;
 
 /// A type with more bytes isn't named in a Reject.
-const LONGEST_KIND: usize = 32;
+pub(crate) const LONGEST_KIND: usize = 32;
+
+/// The most bytes of the body of a session message.
+pub const LONGEST_ADMIN: usize = 266;
 
 /// The body of a session message that is sent with this number.
 pub fn admin_body(alloc: Global, admin: &Admin, number: u64) -> Result<Vec<u8>, NoMemory>
-    ensures { IfOk result (λ body. body.items ≡ admin_text admin.now number) }
+    ensures text { IfOk result (λ body. body.items ≡ admin_text admin.now number) }
+    // It is a frame's body behind header fields, and short where its own texts are.
+    ensures body { IfOk result (λ body. IsBody body.items) }
+    ensures short { HasShortTexts admin.now → IfOk result (λ body. length body.items ≤ LONGEST_ADMIN) }
+    // It tells whether the clock alone sends it.
+    ensures tick { IfOk result (λ body. is_tick_text body.items ≡ is_tick admin.now) }
 {
     match admin {
         Admin::Logon { heart, reset } => logon_body(alloc, *heart, *reset),
@@ -28,14 +38,15 @@ pub fn admin_body(alloc: Global, admin: &Admin, number: u64) -> Result<Vec<u8>, 
             tag,
             kind,
             reason,
-        } => reject_body(alloc, *seq, *tag, kind.as_slice(), *reason),
+        } => reject_body(alloc, *seq, *tag, kind, *reason),
         Admin::Logout { text } => logout_body(alloc, text),
     }
 }
 
 #[tactic(auto, unfolding(crate::specs::Admin::logon_text))]
 fn logon_body(alloc: Global, heart: u32, reset: bool) -> Result<Vec<u8>, NoMemory>
-    ensures { IfOk result (λ body. body.items ≡ logon_text heart reset) }
+    ensures text { IfOk result (λ body. body.items ≡ logon_text heart reset) }
+    ensures range { heart < 2 ^ 32 }
 {
     let mut body = Vec::new(alloc);
     put(&mut body, b"35=", b"A")?;
@@ -61,7 +72,8 @@ fn heartbeat_body(alloc: Global, test: &Option<Bytes>) -> Result<Vec<u8>, NoMemo
 
 #[tactic(auto, unfolding(crate::specs::Admin::test_request_text))]
 fn test_request_body(alloc: Global, number: u64) -> Result<Vec<u8>, NoMemory>
-    ensures { IfOk result (λ body. body.items ≡ test_request_text number) }
+    ensures text { IfOk result (λ body. body.items ≡ test_request_text number) }
+    ensures range { number < 2 ^ 64 }
 {
     let mut body = Vec::new(alloc);
     put(&mut body, b"35=", b"1")?;
@@ -71,7 +83,9 @@ fn test_request_body(alloc: Global, number: u64) -> Result<Vec<u8>, NoMemory>
 
 #[tactic(auto, unfolding(crate::specs::Admin::resend_request_text))]
 fn resend_request_body(alloc: Global, begin: u32, last: u32) -> Result<Vec<u8>, NoMemory>
-    ensures { IfOk result (λ body. body.items ≡ resend_request_text begin last) }
+    ensures text { IfOk result (λ body. body.items ≡ resend_request_text begin last) }
+    ensures begin { begin < 2 ^ 32 }
+    ensures last { last < 2 ^ 32 }
 {
     let mut body = Vec::new(alloc);
     put(&mut body, b"35=", b"2")?;
@@ -85,11 +99,15 @@ fn reject_body(
     alloc: Global,
     seq: u32,
     tag: u32,
-    kind: &[u8],
+    kind: &Bytes,
     reason: u8,
 ) -> Result<Vec<u8>, NoMemory>
-    ensures { IfOk result (λ body. body.items ≡ reject_text seq tag kind.now reason) }
+    ensures text { IfOk result (λ body. body.items ≡ reject_text seq tag kind.now reason) }
+    ensures seq { seq < 2 ^ 32 }
+    ensures tag { tag < 2 ^ 32 }
+    ensures reason { reason < 2 ^ 32 }
 {
+    let kind = kind.as_slice();
     let mut body = Vec::new(alloc);
     put(&mut body, b"35=", b"3")?;
     put_number(&mut body, b"45=", seq as u64)?;
@@ -115,7 +133,7 @@ fn logout_body(alloc: Global, text: &Option<Bytes>) -> Result<Vec<u8>, NoMemory>
 
 /// Writes a field at the end; its tag is handed in with its `=`.
 fn put(body: &mut Vec<u8>, tag: &[u8], value: &[u8]) -> Result<(), NoMemory>
-    ensures { OnOk result (body.new.items ≡ body.old.items ++ field tag.now value.now) }
+    ensures { OnOk result (body.new.items ≡ body.old.items ++ field_text tag.now value.now) }
 {
     body.extend_from_slice(tag)?;
     body.extend_from_slice(value)?;
@@ -124,7 +142,7 @@ fn put(body: &mut Vec<u8>, tag: &[u8], value: &[u8]) -> Result<(), NoMemory>
 }
 
 fn put_number(body: &mut Vec<u8>, tag: &[u8], n: u64) -> Result<(), NoMemory>
-    ensures { OnOk result (body.new.items ≡ body.old.items ++ number_field tag.now n) }
+    ensures { OnOk result (body.new.items ≡ body.old.items ++ number_field_text tag.now n) }
 {
     let mut digits = Buffer::new();
     put(body, tag, digits.format(n).as_bytes())

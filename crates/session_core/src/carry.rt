@@ -3,8 +3,8 @@
 
 ghost use Rattle.std.specs.Prelude.{◌≡◌, ◌+◌, ◌<◌, ◌≤◌, [], if◌then◌else◌, vec_len, vec_capacity};
 ghost use Rattle.std.specs.FinMap as map;
-ghost use Rattle.seq_gaps.specs.Line.{IsNumber};
-ghost use Rattle.session_core.specs.Carry.{filled_to, carried, drained, asked_for, handled, closing, after_step, end_of, IsNumbered};
+ghost use Rattle.seq_gaps.specs.Line.{IsNumber, after_clear};
+ghost use Rattle.session_core.specs.Carry.{after_fill_to, after_carrying, after_draining, with_request, after_handling, closing_acts, after_step, end_of, IsNumbered};
 
 use crate::acts::{Act, Admin};
 use crate::causes::Cause;
@@ -69,17 +69,19 @@ pub(crate) fn carry_step(
     }
 }
 
-/// The connection ends behind one message or two. The number is counted, or not.
+/// The connection ends behind one message or two. The number is counted, or not, and what is held is
+/// dropped.
 fn close(line: &mut Inbound, acts: &mut Vec<Act>, first: Option<Admin>, last: Admin, counts: bool)
     requires empty { acts.old.items ≡ [] }
     requires room { OWN_ACTS ≤ vec_capacity acts.old }
-    ensures line { line.new ≡ (if counts then filled_to line.old (line.old.expected + 1) else line.old) }
-    ensures acts { acts.new.items ≡ closing first last }
+    ensures line { line.new ≡ after_clear (if counts then after_fill_to line.old (line.old.expected + 1) else line.old) }
+    ensures acts { acts.new.items ≡ closing_acts first last }
 {
     if counts {
         let next = line.next_number() + 1;
         line.fill_to(next);
     }
+    line.clear();
     if let Some(first) = first {
         acts.push_reserved(Act::Send(first));
     }
@@ -89,11 +91,11 @@ fn close(line: &mut Inbound, acts: &mut Vec<Act>, first: Option<Admin>, last: Ad
 /// Offers a message to the line with its number and what it asks for: on its number it is carried
 /// out, and then those held behind it; an early one is held, and a gap that it shows is asked for.
 /// FIX 4.4, volume 2, "Ordered Message Processing", "Message Recovery".
-#[tactic(auto, unfolding(crate::specs::Carry::handled))]
+#[tactic(auto, unfolding(crate::specs::Carry::after_handling))]
 pub(crate) fn handle(line: &mut Inbound, acts: &mut Vec<Act>, number: u32, task: Task)
     requires number { IsNumber number }
     requires room { vec_len acts.old + map.len line.old.held + 1 ≤ vec_capacity acts.old }
-    ensures { record { line = line.new; acts = acts.new.items } ≡ handled (record { line = line.old; acts = acts.old.items }) number task }
+    ensures { record { line = line.new; acts = acts.new.items } ≡ after_handling (record { line = line.old; acts = acts.old.items }) number task }
 {
     let answer = line.offer(number, task);
     match answer.place {
@@ -109,7 +111,7 @@ pub(crate) fn handle(line: &mut Inbound, acts: &mut Vec<Act>, number: u32, task:
 /// Asks for a gap. FIX 4.4, volume 2, "Resend Request".
 fn ask(acts: &mut Vec<Act>, gap: Option<Gap>)
     requires { vec_len acts.old < vec_capacity acts.old }
-    ensures { acts.new.items ≡ asked_for acts.old.items gap }
+    ensures { acts.new.items ≡ with_request acts.old.items gap }
 {
     if let Some(gap) = gap {
         acts.push_reserved(Act::Send(Admin::ResendRequest {
@@ -122,7 +124,7 @@ fn ask(acts: &mut Vec<Act>, gap: Option<Gap>)
 /// Carries out each held message whose number is the expected one, in order.
 fn drain(line: &mut Inbound, acts: &mut Vec<Act>)
     requires { vec_len acts.old + map.len line.old.held ≤ vec_capacity acts.old }
-    ensures { record { line = line.new; acts = acts.new.items } ≡ drained HELD_LIMIT (record { line = line.old; acts = acts.old.items }) }
+    ensures { record { line = line.new; acts = acts.new.items } ≡ after_draining HELD_LIMIT (record { line = line.old; acts = acts.old.items }) }
 {
     for i in 0..HELD_LIMIT {
         match line.take_ready() {
@@ -135,7 +137,7 @@ fn drain(line: &mut Inbound, acts: &mut Vec<Act>)
 /// Carries out what a message asks for on its number.
 fn carry(line: &mut Inbound, acts: &mut Vec<Act>, task: Task)
     requires { vec_len acts.old < vec_capacity acts.old }
-    ensures progress { record { line = line.new; acts = acts.new.items } ≡ carried (record { line = line.old; acts = acts.old.items }) task }
+    ensures progress { record { line = line.new; acts = acts.new.items } ≡ after_carrying (record { line = line.old; acts = acts.old.items }) task }
     ensures len { vec_len acts.new ≤ vec_len acts.old + 1 }
     ensures capacity { vec_capacity acts.new ≡ vec_capacity acts.old }
     ensures held { map.len line.new.held ≤ map.len line.old.held }

@@ -2,10 +2,10 @@
 
 ghost use Rattle.std.specs.Prelude.{◌≡◌, ◌+◌, ◌≤◌, if◌then◌else◌, is_some, IfOk};
 ghost use Rattle.std.specs.FinMap as map;
-ghost use Rattle.seq_gaps.specs.Line.{IsNumber, IsLine, opening, filled, after_taking, cleared};
-ghost use Rattle.seq_gaps.specs.Offers.{offered, after_offer};
-ghost use Rattle.session_core.specs.Carry.{filled_to};
-ghost use Rattle.session_core.specs.Holding.{is_held, more_held};
+ghost use Rattle.seq_gaps.specs.Line.{IsNumber, IsLine, fresh_line, after_fill, after_taking, after_clear};
+ghost use Rattle.seq_gaps.specs.Offers.{answer_to_offer, after_offer, more_held};
+ghost use Rattle.session_core.specs.Carry.{after_fill_to};
+ghost use Rattle.session_core.specs.Holding.{is_held};
 
 use crate::tasks::Task;
 use gate_io::NoMemory;
@@ -41,7 +41,7 @@ impl Inbound {
     pub(crate) fn expecting(alloc: Global, expected: u32) -> Result<Inbound, NoMemory>
         requires from { 1 ≤ expected }
         requires to { expected ≤ MAX_NUMBER + 1 }
-        ensures { IfOk result (λ line. line ≡ filled opening expected) }
+        ensures { IfOk result (λ line. line ≡ after_fill fresh_line expected) }
     {
         let mut line = Expect::new(alloc)?;
         line.fill(expected);
@@ -50,7 +50,7 @@ impl Inbound {
 
     /// A line that expects number 1, with nothing held.
     pub(crate) fn new(alloc: Global) -> Result<Inbound, NoMemory>
-        ensures { IfOk result (λ line. line ≡ opening) }
+        ensures { IfOk result (λ line. line ≡ fresh_line) }
     {
         let line = Expect::new(alloc)?;
         Ok(Inbound { line, most_held: 0 })
@@ -73,7 +73,7 @@ impl Inbound {
 
     pub(crate) fn offer(&mut self, n: u32, task: Task) -> Offered<Task>
         requires { IsNumber n }
-        ensures answer { result ≡ offered self.old n task }
+        ensures answer { result ≡ answer_to_offer self.old n task }
         ensures line { self.new ≡ after_offer self.old n task }
         ensures held { map.len self.new.held ≤ map.len self.old.held + more_held result.place }
     {
@@ -96,9 +96,9 @@ impl Inbound {
     }
 
     /// Counts the numbers below `to`, where that goes forward.
-    #[tactic(auto, unfolding(crate::specs::Carry::filled_to))]
+    #[tactic(auto, unfolding(crate::specs::Carry::after_fill_to))]
     pub(crate) fn fill_to(&mut self, to: u32)
-        ensures line { self.new ≡ filled_to self.old to }
+        ensures line { self.new ≡ after_fill_to self.old to }
         ensures held { map.len self.new.held ≤ map.len self.old.held }
     {
         if self.line.next_number() <= to && to <= MAX_NUMBER + 1 {
@@ -108,7 +108,7 @@ impl Inbound {
 
     /// The connection ended.
     pub(crate) fn clear(&mut self)
-        ensures { self.new ≡ cleared self.old }
+        ensures { self.new ≡ after_clear self.old }
     {
         self.line.clear();
         self.most_held = 0;
@@ -116,7 +116,7 @@ impl Inbound {
 
     /// The numbers begin again at 1.
     pub(crate) fn restart(&mut self)
-        ensures line { self.new ≡ opening }
+        ensures line { self.new ≡ fresh_line }
         ensures held { map.len self.new.held ≡ 0 }
     {
         self.line.restart();

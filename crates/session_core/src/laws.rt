@@ -1,6 +1,45 @@
 //! Laws of the definitions that the contracts of this crate cite. The functions do nothing.
 
-ghost use Rattle.session_core.specs.Runs.{MomentsDontMatter, ClocksChangeMoments, ActsAtAnyMoments, LeavesNoneReady, NumbersGoForward, HandlesWhatCameFirst};
+ghost use Rattle.session_core.specs.Laws.{StatesStayLawful, ExpectedIsCarriedOut, ActsOfMessages, OnlyLogonsReset, SamenessLaws, MomentsDontMatter, RunsFollowBodies, RunsInParts, HandledInParts, LeavesNoneReady, NumbersGoForward, HandlesWhatCameFirst};
+ghost use Rattle.session_core.specs.Lines.{LineLaws};
+
+use crate::tasks::Task;
+use seq_gaps::laws::{expected_numbers, held_counts, held_items, lines_stay_lines};
+
+/// What holds of every session holds at first, and behind each call: among others that the expected
+/// number isn't held, and that nothing is held before a Logon is answered.
+pub fn states_stay_lawful()
+    ensures { StatesStayLawful }
+{
+    line_laws();
+}
+
+/// A message with the expected number is counted and carried out.
+pub fn expected_is_carried_out()
+    ensures { ExpectedIsCarriedOut }
+{
+    line_laws();
+}
+
+/// The acts of a message send short texts and nothing that the clock alone sends, and a reset comes
+/// first.
+pub fn acts_of_messages()
+    ensures { ActsOfMessages }
+{
+    line_laws();
+}
+
+/// A message on a session whose Logon was answered asks for no reset.
+pub fn only_logons_reset()
+    ensures { OnlyLogonsReset }
+{
+    line_laws();
+}
+
+/// To be the same but for moments is an equivalence, and each call keeps it.
+pub fn sameness_laws()
+    ensures { SamenessLaws }
+{}
 
 /// What follows from a message depends on no moment, neither on its own nor on those that the
 /// session keeps.
@@ -8,20 +47,29 @@ pub fn moments_dont_matter()
     ensures { MomentsDontMatter }
 {}
 
-/// A tick, and a sending, change the moments that the session keeps and nothing else.
-pub fn clocks_change_moments()
-    ensures { ClocksChangeMoments }
+/// Whatever messages, ticks and sendings a session meets, what follows is what follows from the
+/// bodies alone.
+pub fn runs_follow_bodies()
+    ensures { RunsFollowBodies }
 {}
 
-/// The acts of a list of messages are the same, whatever the moments at which they come.
-pub fn acts_at_any_moments()
-    ensures { ActsAtAnyMoments }
+/// What follows from two lists of messages, or of connections, one behind the other.
+pub fn runs_in_parts()
+    ensures { RunsInParts }
+{}
+
+/// What a bound connection handles is all that comes where nothing ends it; else the last that it
+/// handles, and no other, ends it, and what comes later changes nothing.
+pub fn handled_in_parts()
+    ensures { HandledInParts }
 {}
 
 /// Behind a run over the held messages none is left with the expected number.
 pub fn leaves_none_ready()
     ensures { LeavesNoneReady }
-{}
+{
+    line_laws();
+}
 
 /// On a bound session the expected number never falls, whatever comes.
 pub fn numbers_go_forward()
@@ -32,3 +80,13 @@ pub fn numbers_go_forward()
 pub fn handles_what_came_first()
     ensures { HandlesWhatCameFirst }
 {}
+
+/// What the proofs know of the number line.
+pub(crate) fn line_laws()
+    ensures { LineLaws }
+{
+    lines_stay_lines::<Task>();
+    held_items::<Task>();
+    held_counts::<Task>();
+    expected_numbers::<Task>();
+}

@@ -1,5 +1,5 @@
-//! The session machine of the accepting side: what a message, the clock and a connection's end mean
-//! for one session.
+//! The session machine: what a message, the clock and a connection's end mean for one session, of the
+//! accepting side or of the side that dials.
 //!
 //! FIX 4.4, volume 2, "Session Protocol". The machine sends nothing itself: it takes bodies and
 //! moments, and answers with acts, in order, and with the cause by which a connection ends.
@@ -14,8 +14,6 @@ pub mod laws;
 mod logons;
 mod names;
 mod phases;
-#[cfg(test)]
-mod plain;
 mod reading;
 mod replies;
 mod routing;
@@ -23,14 +21,14 @@ mod said;
 mod session;
 mod steps;
 mod tasks;
-#[cfg(test)]
-mod tests;
 mod ticks;
 
-pub use acts::{Act, Admin, Effects};
-pub use admin_text::admin_body;
+pub use acts::{Act, Admin, Effects, is_session_entry};
+pub use admin_text::{LONGEST_ADMIN, admin_body};
 pub use causes::Cause;
 pub use names::Names;
+pub use replies::{LONGEST_LOGOUT_TEXT, LONGEST_TEST};
 pub use routing::{MOST_SESSIONS, route, session_of};
 pub use said::LONGEST_HEARTBEAT;
 pub use session::Session;
+pub use ticks::ANSWER_WAIT;

@@ -5,7 +5,7 @@ ghost use Rattle.std.specs.FinMap as map;
 ghost use Rattle.seq_gaps.specs.Line.{IsNumber};
 ghost use Rattle.session_core.specs.Route.{AreTerms};
 ghost use Rattle.session_core.specs.State.{heart_in};
-ghost use Rattle.session_core.specs.Receive.{logged_on, low_effects, welcomed, greeting, line_at};
+ghost use Rattle.session_core.specs.Receive.{outcome_of_logon, outcome_of_answer, outcome_of_good_answer, low_effects, outcome_of_welcome, greeting, line_at};
 
 use crate::acts::{Act, Admin, Effects};
 use crate::carry::{OWN_ACTS, handle};
@@ -22,17 +22,17 @@ use std::alloc::Global;
 /// A Logon with these terms: where its number is low a Logout, and the connection ends; else it is
 /// answered, behind a reset where it asks for one, and its number goes to the line. Without memory
 /// the line is as it was. FIX 4.4, volume 2, "Logon".
-#[tactic(auto, unfolding(crate::specs::Receive::logged_on))]
+#[tactic(auto, unfolding(crate::specs::Receive::outcome_of_logon))]
 pub(crate) fn log_on(
     alloc: Global,
     line: &mut Inbound,
     terms: Terms,
 ) -> Result<(Phase, Effects), NoMemory>
     requires { AreTerms terms }
-    ensures phase { IfOk result (λ r. r.0 ≡ (logged_on line.old terms).phase) }
+    ensures phase { IfOk result (λ r. r.0 ≡ (outcome_of_logon line.old terms).phase) }
     ensures heart { IfOk result (λ r. heart_in r.0 ≤ LONGEST_HEARTBEAT) }
-    ensures effects { IfOk result (λ r. r.1 ≡ (logged_on line.old terms).effects) }
-    ensures line { OnOk result (line.new ≡ (logged_on line.old terms).line) }
+    ensures effects { IfOk result (λ r. r.1 ≡ (outcome_of_logon line.old terms).effects) }
+    ensures line { OnOk result (line.new ≡ (outcome_of_logon line.old terms).line) }
     ensures err { OnErr result (line.new ≡ line.old) }
 {
     let expected = if terms.reset { 1 } else { line.next_number() };
@@ -42,6 +42,33 @@ pub(crate) fn log_on(
     }
     let effects = welcome(alloc, line, terms)?;
     Ok((Phase::On { heart: terms.heart }, effects))
+}
+
+/// The answer to the session's own Logon has this number: where it is low a Logout, and the
+/// connection ends; else it goes to the line with nothing left to do. Without memory the line is as it
+/// was. FIX 4.4, volume 2, "Logon".
+#[tactic(auto, unfolding(crate::specs::Receive::outcome_of_answer))]
+pub(crate) fn take_answer(
+    alloc: Global,
+    line: &mut Inbound,
+    heart: u32,
+    number: u32,
+) -> Result<Effects, NoMemory>
+    requires { IsNumber number }
+    ensures effects { IfOk result (λ effects. effects ≡ (outcome_of_answer line.old heart number).effects) }
+    ensures line { OnOk result (line.new ≡ (outcome_of_answer line.old heart number).line) }
+    ensures err { OnErr result (line.new ≡ line.old) }
+{
+    let expected = line.next_number();
+    if number < expected {
+        return turn_away(alloc, expected, number);
+    }
+    let mut acts = Vec::with_capacity(alloc, OWN_ACTS + line.most_held())?;
+    handle(line, &mut acts, number, Task::Nothing);
+    Ok(Effects {
+        acts: Rows::of(acts),
+        end: None,
+    })
 }
 
 /// A low number is answered with a Logout, whatever PossDupFlag (43) says.
@@ -59,8 +86,8 @@ fn turn_away(alloc: Global, expected: u32, got: u32) -> Result<Effects, NoMemory
 /// The Logon is answered with the same HeartBtInt (108).
 fn welcome(alloc: Global, line: &mut Inbound, terms: Terms) -> Result<Effects, NoMemory>
     requires { IsNumber terms.number }
-    ensures effects { IfOk result (λ effects. effects ≡ (welcomed line.old terms).effects) }
-    ensures line { OnOk result (line.new ≡ (welcomed line.old terms).line) }
+    ensures effects { IfOk result (λ effects. effects ≡ (outcome_of_welcome line.old terms).effects) }
+    ensures line { OnOk result (line.new ≡ (outcome_of_welcome line.old terms).line) }
     ensures err { OnErr result (line.new ≡ line.old) }
 {
     let mut acts = Vec::with_capacity(alloc, OWN_ACTS + line.most_held())?;

@@ -1,7 +1,9 @@
-/// Whether a Logon was answered on a connection that stands.
+/// How far the Logons of a connection that stands have come.
 #[derive(Clone, Copy, Debug, PartialEq, Eq)]
 pub(crate) enum Phase {
     Off,
-    /// With this HeartBtInt, in seconds.
+    /// The session dialled, and its own Logon with this HeartBtInt isn't answered yet.
+    Asked { heart: u32 },
+    /// A Logon was answered, with this HeartBtInt, in seconds.
     On { heart: u32 },
 }

@@ -5,10 +5,12 @@ ghost use Rattle.std.specs.Result.{result_ok};
 ghost use Rattle.fix_fields.specs.Reading.{fields_of};
 ghost use Rattle.session_core.specs.Carry.{IsNumbered};
 ghost use Rattle.session_core.specs.Receive.{terms_in, step_in};
-ghost use Rattle.session_core.specs.Route.{AreTerms};
+ghost use Rattle.seq_gaps.specs.Line.{IsNumber};
+ghost use Rattle.session_core.specs.Route.{AreTerms, answer_in};
 
+use crate::causes::Cause;
 use crate::names::Names;
-use crate::routing::{Terms, terms_of};
+use crate::routing::{Terms, answer_of, terms_of};
 use crate::steps::{Step, step_of};
 use fix_fields::{FieldError, Fields};
 use gate_io::NoMemory;
@@ -40,6 +42,22 @@ pub(crate) fn read_terms(alloc: Global, body: &[u8]) -> Result<Option<Terms>, No
     match terms_of(&fields) {
         Ok(terms) => Ok(Some(terms)),
         Err(_) => Ok(None),
+    }
+}
+
+/// The MsgSeqNum of the answer to the session's own Logon, or the cause that refuses it.
+pub(crate) fn read_answer(
+    alloc: Global,
+    names: &Names,
+    heart: u32,
+    body: &[u8],
+) -> Result<Result<u32, Cause>, NoMemory>
+    ensures answer { IfOk result (λ answer. answer ≡ answer_in names.now heart (result_ok (fields_of body.now))) }
+    ensures number { IfOk result (λ answer. IfOk answer IsNumber) }
+{
+    match read_fields(alloc, body)? {
+        Some(fields) => Ok(answer_of(names, heart, &fields)),
+        None => Ok(Err(Cause::NotLogon)),
     }
 }
 

@@ -2,7 +2,7 @@
 
 ghost use Rattle.std.specs.Prelude.{◌≡◌, ◌≤◌, IfOk};
 ghost use Rattle.seq_gaps.specs.Line.{IsNumber};
-ghost use Rattle.session_core.specs.Replies.{rejected, test_answer, number_in, resend_answer, new_number, gap_fill, low_text, no_number_text};
+ghost use Rattle.session_core.specs.Replies.{reject_for, test_answer, number_in, resend_answer, new_number, gap_fill, low_text, no_number_text};
 
 use crate::acts::{Act, Admin};
 use crate::said::{new_seq_no_of, type_of};
@@ -13,7 +13,10 @@ use itoa::Buffer;
 use std::alloc::Global;
 
 /// The most bytes of a TestReqID (112) that is sent back.
-const LONGEST_TEST: usize = 256;
+pub const LONGEST_TEST: usize = 256;
+
+/// The most bytes of the text (58) of a Logout.
+pub const LONGEST_LOGOUT_TEXT: usize = 63;
 
 /// SessionRejectReason (373): a required field is missing.
 const MISSING: u8 = 1;
@@ -30,7 +33,7 @@ pub(crate) fn reject(
     tag: u32,
     reason: u8,
 ) -> Result<Admin, NoMemory>
-    ensures { IfOk result (λ admin. admin ≡ rejected n fields.now tag reason) }
+    ensures { IfOk result (λ admin. admin ≡ reject_for n fields.now tag reason) }
 {
     let kind = Vec::from_slice(alloc, type_of(fields))?;
     Ok(Admin::Reject {

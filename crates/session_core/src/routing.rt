@@ -1,7 +1,8 @@
 //! The first message of an unbound connection.
 
 ghost use Rattle.std.specs.Prelude.{◌≡◌, ◌≤◌, ◌<◌, length, IfOk, IfSome};
-ghost use Rattle.session_core.specs.Route.{asks_reset, has_lawful_reset, terms_of, AreTerms, session_of, route};
+ghost use Rattle.seq_gaps.specs.Line.{IsNumber};
+ghost use Rattle.session_core.specs.Route.{asks_reset, has_lawful_reset, has_no_reset, has_heart, answer_of, terms_of, AreTerms, session_of, route};
 
 use crate::causes::Cause;
 use crate::names::Names;
@@ -88,6 +89,57 @@ pub(crate) fn terms_of(fields: &Fields<'_>) -> Result<Terms, Cause>
         number,
         reset,
     })
+}
+
+/// The MsgSeqNum of the Logon that answers the session's own with this HeartBtInt, or the first cause
+/// that refuses it: NotLogon, CompId for 49 and 56, BadLogon for 98, 108 and 141, NoNumber. FIX 4.4,
+/// volume 2, "Logon".
+#[tactic(auto, unfolding(crate::specs::Route::answer_of))]
+pub(crate) fn answer_of(names: &Names, heart: u32, fields: &Fields<'_>) -> Result<u32, Cause>
+    ensures answer { result ≡ answer_of names.now heart fields.now }
+    ensures number { IfOk result IsNumber }
+{
+    if !has_value(fields, 35, b"A") {
+        return Err(Cause::NotLogon);
+    }
+    if !has_value(fields, 49, names.them.as_slice()) {
+        return Err(Cause::CompId { tag: 49 });
+    }
+    if !has_value(fields, 56, names.us.as_slice()) {
+        return Err(Cause::CompId { tag: 56 });
+    }
+    if !has_value(fields, 98, b"0") {
+        return Err(Cause::BadLogon { tag: 98 });
+    }
+    if !has_heart(heart, fields) {
+        return Err(Cause::BadLogon { tag: 108 });
+    }
+    if !has_no_reset(fields) {
+        return Err(Cause::BadLogon { tag: 141 });
+    }
+    match seq_num_of(fields) {
+        Some(number) => Ok(number),
+        None => Err(Cause::NoNumber),
+    }
+}
+
+/// Whether HeartBtInt (108) is this number.
+#[tactic(auto, unfolding(crate::specs::Route::has_heart))]
+fn has_heart(heart: u32, fields: &Fields<'_>) -> bool
+    ensures { result ≡ has_heart heart fields.now }
+{
+    match heart_of(fields) {
+        Some(found) => found == heart,
+        None => false,
+    }
+}
+
+/// Whether ResetSeqNumFlag (141) is missing or N.
+#[tactic(auto, unfolding(crate::specs::Route::has_no_reset))]
+fn has_no_reset(fields: &Fields<'_>) -> bool
+    ensures { result ≡ has_no_reset fields.now }
+{
+    fields.first(141).is_none() || has_value(fields, 141, b"N")
 }
 
 /// Whether ResetSeqNumFlag (141) is Y.

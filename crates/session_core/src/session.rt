@@ -1,21 +1,25 @@
-//! A session of the accepting side.
+//! A session, which is bound by a connection that comes or by one that it dials itself.
 
-ghost use Rattle.std.specs.Prelude.{◌≡◌, ℕ, ◌+◌, ◌≤◌, nat_lt, true, [], ◌∷◌, if◌then◌else◌, None, Some, IfOk, IfSome, IfNone, OnOk, OnErr};
-ghost use Rattle.std.specs.List.{list_any};
-ghost use Rattle.seq_gaps.specs.Line.{opening, filled};
+ghost use Rattle.std.specs.Prelude.{◌≡◌, ℕ, ◌+◌, ◌≤◌, nat_le, nat_lt, true, IsSome, IsNone, IsOk, [], ◌∷◌, if◌then◌else◌, None, Some, IfOk, IfSome, IfNone, OnOk, OnErr};
+ghost use Rattle.std.specs.List.{All, list_any};
+ghost use Rattle.seq_gaps.specs.Line.{IsLine, fresh_line, after_fill};
+ghost use Rattle.session_core.specs.Ask.{ask, after_ask};
+ghost use Rattle.session_core.specs.Laws.{AreActs};
 ghost use Rattle.session_core.specs.Receive.{receive, after_receive, is_send, no_effects};
-ghost use Rattle.session_core.specs.State.{unbound, left, heart_in};
+ghost use Rattle.session_core.specs.State.{IsState, IsDialHeart, new_state, after_leave, heart_in};
+ghost use Rattle.session_core.specs.Tasks.{IsReply, is_tick_act};
 ghost use Rattle.session_core.specs.Tick.{tick, after_tick, tick_of, does_nothing_at};
 
 use crate::acts::{Act, Admin, Effects};
 use crate::carry::{OWN_ACTS, carry_step};
 use crate::causes::Cause;
 use crate::inbound::Inbound;
-use crate::logons::log_on;
+use crate::laws::line_laws;
+use crate::logons::{log_on, take_answer};
 use crate::names::Names;
 use crate::phases::Phase;
-use crate::reading::{read_step, read_terms};
-use crate::ticks::Tick;
+use crate::reading::{read_answer, read_step, read_terms};
+use crate::ticks::{ANSWER_WAIT, Tick};
 use gate_io::{Bytes, LAST_MOMENT, NoMemory, Rows};
 use seq_gaps::MAX_NUMBER;
 use std::alloc::Global;
@@ -26,6 +30,7 @@ use std::marker::Model;
 #[derive(Debug, Drop)]
 pub struct Session {
     names: Names,
+    dials: Option<u32>,
     phase: Phase,
     line: Inbound,
     received: u64,
@@ -43,18 +48,19 @@ impl Model for Session {
 
     ghost coded = { Prim.hlevel (codes, line_code task.the_row.coded) };
 
-    ghost view = { λ s. record { names = s.names; phase = s.phase; line = s.line; received = s.received; sent = s.sent; waiting = s.waiting } };
+    ghost view = { λ s. record { names = s.names; dials = s.dials; phase = s.phase; line = s.line; received = s.received; sent = s.sent; waiting = s.waiting } };
 
-    ghost invariant = { λ s. IsState (record { names = s.names; phase = s.phase; line = s.line; received = s.received; sent = s.sent; waiting = s.waiting }) };
+    ghost invariant = { λ s. IsState (record { names = s.names; dials = s.dials; phase = s.phase; line = s.line; received = s.received; sent = s.sent; waiting = s.waiting }) };
 }
 
 impl Session {
     /// A session of which nothing was heard: it expects number 1.
     pub fn new(alloc: Global, us: Vec<u8>, them: Vec<u8>) -> Result<Session, NoMemory>
-        ensures { IfOk result (λ session. session ≡ unbound us.items them.items opening) }
+        ensures { IfOk result (λ session. session ≡ new_state us.items them.items None fresh_line) }
     {
+        line_laws();
         let line = Inbound::new(alloc)?;
-        Ok(Session::with_line(us, them, line))
+        Ok(Session::with_line(us, them, None, line))
     }
 
     /// A session that goes on from a record: it expects this number.
@@ -66,19 +72,40 @@ impl Session {
     ) -> Result<Session, NoMemory>
         requires from { 1 ≤ expected }
         requires to { expected ≤ MAX_NUMBER + 1 }
-        ensures { IfOk result (λ session. session ≡ unbound us.items them.items (filled opening expected)) }
+        ensures { IfOk result (λ session. session ≡ new_state us.items them.items None (after_fill fresh_line expected)) }
     {
+        line_laws();
         let line = Inbound::expecting(alloc, expected)?;
-        Ok(Session::with_line(us, them, line))
+        Ok(Session::with_line(us, them, None, line))
     }
 
-    fn with_line(us: Vec<u8>, them: Vec<u8>, line: Inbound) -> Session
-        ensures { result ≡ unbound us.items them.items line }
+    /// A session that dials with this HeartBtInt, in seconds: it is off, and expects this number.
+    pub fn dialling(
+        alloc: Global,
+        us: Vec<u8>,
+        them: Vec<u8>,
+        heart: u32,
+        expected: u32,
+    ) -> Result<Session, NoMemory>
+        requires heart { IsDialHeart heart }
+        requires from { 1 ≤ expected }
+        requires to { expected ≤ MAX_NUMBER + 1 }
+        ensures { IfOk result (λ session. session ≡ new_state us.items them.items (Some heart) (after_fill fresh_line expected)) }
+    {
+        line_laws();
+        let line = Inbound::expecting(alloc, expected)?;
+        Ok(Session::with_line(us, them, Some(heart), line))
+    }
+
+    fn with_line(us: Vec<u8>, them: Vec<u8>, dials: Option<u32>, line: Inbound) -> Session
+        requires { IsState (new_state us.items them.items dials line) }
+        ensures { result ≡ new_state us.items them.items dials line }
     {
         let us = Bytes::of(us);
         let them = Bytes::of(them);
         Session {
             names: Names { us, them },
+            dials,
             phase: Phase::Off,
             line,
             received: 0,
@@ -92,8 +119,16 @@ impl Session {
         ensures number { result ≡ self.now.line.expected }
         ensures from { 1 ≤ result }
         ensures to { result ≤ MAX_NUMBER + 1 }
+        // What holds of every session.
+        ensures state { IsState self.now }
     {
         self.line.next_number()
+    }
+
+    pub fn names(&self) -> &Names
+        ensures { result.now ≡ self.now.names }
+    {
+        &self.names
     }
 
     /// An item for the connection was queued at this moment.
@@ -106,17 +141,45 @@ impl Session {
 
     /// The connection ended.
     pub fn leave(&mut self)
-        ensures { self.new ≡ left self.old }
+        ensures { self.new ≡ after_leave self.old }
     {
+        line_laws();
         self.phase = Phase::Off;
         self.line.clear();
         self.waiting = None;
     }
 
+    /// The session dialled, and its connection was made at this moment: the Logon with which it begins.
+    /// FIX 4.4, volume 2, "Logon".
+    pub fn ask(&mut self, alloc: Global, moment: u64) -> Result<Effects, NoMemory>
+        requires dials { IsSome self.old.dials }
+        requires off { self.old.phase ≡ Phase.Off }
+        requires moment { moment ≤ LAST_MOMENT }
+        ensures effects { IfOk result (λ effects. effects ≡ ask self.old) }
+        ensures state { OnOk result (self.new ≡ after_ask self.old moment) }
+        ensures err { OnErr result (self.new ≡ self.old) }
+    {
+        let Some(heart) = self.dials else {
+            return Ok(nothing(alloc));
+        };
+        let logon = Admin::Logon {
+            heart,
+            reset: false,
+        };
+        let effects = one_sent(alloc, logon)?;
+        self.phase = Phase::Asked { heart };
+        self.received = moment;
+        self.sent = moment;
+        self.waiting = None;
+        Ok(effects)
+    }
+
     /// A message with this body came at this moment. On a session that is off it is the Logon of the
     /// connection that is bound now, which `route` refused for no cause; one that it would refuse
-    /// counts for nothing. A body whose fields can't be read counts for nothing. What is sent sets
-    /// the moment of the last sending; for the items of a `Resend` the caller calls `sent`.
+    /// counts for nothing, and so does any on a session that dials and is off. Behind the Logon of
+    /// `ask` it is the answer. On a session whose Logon was answered a body whose fields can't be
+    /// read counts for nothing. What is sent sets the moment of the last sending; for the items of a
+    /// `Resend` the caller calls `sent`.
     pub fn receive(
         &mut self,
         alloc: Global,
@@ -124,12 +187,21 @@ impl Session {
         moment: u64,
     ) -> Result<Effects, NoMemory>
         requires { moment ≤ LAST_MOMENT }
+
+        // The acts and the end, and the session behind them, exactly.
         ensures effects { IfOk result (λ effects. effects ≡ receive self.old body.items moment) }
         ensures state { OnOk result (self.new ≡ after_receive self.old body.items moment) }
         ensures err { OnErr result (self.new ≡ self.old) }
+
+        // The texts that are sent are within their bounds, and what the clock sends isn't among them.
+        // A reset comes first, and only with the Logon that binds.
+        ensures acts { IfOk result (λ effects. AreActs effects.acts) }
+        ensures replies { IfOk result (λ effects. self.old.phase ≡ Phase.On (heart_in self.old.phase) → All IsReply effects.acts) }
     {
+        line_laws();
         match self.phase {
             Phase::Off => self.receive_first(alloc, body.as_slice(), moment),
+            Phase::Asked { heart } => self.receive_answer(alloc, heart, body.as_slice(), moment),
             Phase::On { .. } => self.receive_next(alloc, body, moment),
         }
     }
@@ -147,15 +219,47 @@ impl Session {
         ensures state { OnOk result (self.new ≡ after_receive self.old body.now moment) }
         ensures err { OnErr result (self.new ≡ self.old) }
     {
+        if self.dials.is_some() {
+            return Ok(nothing(alloc));
+        }
         let Some(terms) = read_terms(alloc, body)? else {
             return Ok(nothing(alloc));
         };
+        line_laws();
         let (phase, effects) = log_on(alloc, &mut self.line, terms)?;
         self.phase = phase;
         self.received = moment;
         self.sent = last_sending(effects.acts.as_slice(), self.sent, moment);
         self.waiting = None;
         Ok(effects)
+    }
+
+    #[tactic(auto, unfolding(crate::specs::Receive::outcome), using(crate::proofs::Heard::answer_heard))]
+    fn receive_answer(
+        &mut self,
+        alloc: Global,
+        heart: u32,
+        body: &[u8],
+        moment: u64,
+    ) -> Result<Effects, NoMemory>
+        requires asked { self.old.phase ≡ Phase.Asked heart }
+        requires moment { moment ≤ LAST_MOMENT }
+        ensures effects { IfOk result (λ effects. effects ≡ receive self.old body.now moment) }
+        ensures state { OnOk result (self.new ≡ after_receive self.old body.now moment) }
+        ensures err { OnErr result (self.new ≡ self.old) }
+    {
+        match read_answer(alloc, &self.names, heart, body)? {
+            Ok(number) => {
+                line_laws();
+                let effects = take_answer(alloc, &mut self.line, heart, number)?;
+                self.phase = Phase::On { heart };
+                self.received = moment;
+                self.sent = last_sending(effects.acts.as_slice(), self.sent, moment);
+                self.waiting = None;
+                Ok(effects)
+            }
+            Err(cause) => Ok(ended(alloc, cause)),
+        }
     }
 
     #[tactic(auto, unfolding(crate::specs::Receive::outcome))]
@@ -175,6 +279,7 @@ impl Session {
         let Some(step) = read_step(alloc, &self.names, expected, body.as_slice())? else {
             return Ok(nothing(alloc));
         };
+        line_laws();
         let mut acts = Vec::with_capacity(alloc, OWN_ACTS + self.line.most_held())?;
         let end = carry_step(&mut self.line, &mut acts, step, body);
         self.received = moment;
@@ -192,6 +297,12 @@ impl Session {
         ensures effects { IfOk result (λ effects. effects ≡ tick self.old moment) }
         ensures state { OnOk result (self.new ≡ after_tick self.old moment) }
         ensures err { OnErr result (self.new ≡ self.old) }
+
+        // Where nothing is due it takes no memory.
+        ensures quiet { does_nothing_at self.old moment ≡ true → IsOk result }
+        // It sends what the clock alone sends, and what it tells of silence is a moment.
+        ensures ticks { IfOk result (λ effects. All (λ act. is_tick_act act ≡ true) effects.acts) }
+        ensures since { IfOk result (λ effects. (since : ℕ) → effects.end ≡ Some (Cause.Silent since) → since ≤ LAST_MOMENT) }
     {
         match self.tick_at(moment) {
             Tick::Quiet => Ok(nothing(alloc)),
@@ -206,7 +317,10 @@ impl Session {
                 self.waiting = Some(moment);
                 Ok(effects)
             }
-            Tick::Expire => Ok(silent(alloc, self.received)),
+            Tick::Expire => {
+                let since = self.received;
+                Ok(ended(alloc, Cause::Silent { since }))
+            }
         }
     }
 
@@ -227,13 +341,14 @@ impl Session {
         ensures some { IfSome result (λ due. (moment : ℕ) → does_nothing_at self.now moment ≡ nat_lt moment due) }
         ensures none { IfNone result ((moment : ℕ) → does_nothing_at self.now moment ≡ true) }
     {
-        let Phase::On { heart } = self.phase else {
-            return None;
+        let heart = match self.phase {
+            Phase::Off => return None,
+            Phase::Asked { .. } => return Some(self.received + ANSWER_WAIT),
+            Phase::On { heart } => heart as u64,
         };
         if heart == 0 {
             return None;
         }
-        let heart = heart as u64;
         let beat = self.sent + 1000 * heart;
         match self.waiting {
             Some(since) => Some(beat.min(since + 1000 * heart)),
@@ -246,18 +361,30 @@ impl Session {
     fn tick_at(&self, moment: u64) -> Tick
         ensures { result ≡ tick_of self.now moment }
     {
-        let Phase::On { heart } = self.phase else {
-            return Tick::Quiet;
+        let heart = match self.phase {
+            Phase::Off => return Tick::Quiet,
+            Phase::Asked { .. } => return self.answer_tick(moment),
+            Phase::On { heart } => heart as u64,
         };
         if heart == 0 {
             return Tick::Quiet;
         }
-        let heart = heart as u64;
         match self.waiting {
             Some(since) if since + 1000 * heart <= moment => Tick::Expire,
             None if self.received + 1200 * heart <= moment => Tick::Test,
             _ if self.sent + 1000 * heart <= moment => Tick::Beat,
             _ => Tick::Quiet,
+        }
+    }
+
+    /// The same where the session waits for the answer to its Logon.
+    fn answer_tick(&self, moment: u64) -> Tick
+        ensures { result ≡ (if nat_le (self.now.received + ANSWER_WAIT) moment then Tick.Expire else Tick.Quiet) }
+    {
+        if self.received + ANSWER_WAIT <= moment {
+            Tick::Expire
+        } else {
+            Tick::Quiet
         }
     }
 }
@@ -284,13 +411,13 @@ fn one_sent(alloc: Global, admin: Admin) -> Result<Effects, NoMemory>
     })
 }
 
-/// The connection is dropped, as nothing came since this moment.
-fn silent(alloc: Global, since: u64) -> Effects
-    ensures { result ≡ record { acts = []; end = Some (Cause.Silent since) } }
+/// The connection is dropped with nothing sent.
+fn ended(alloc: Global, cause: Cause) -> Effects
+    ensures { result ≡ record { acts = []; end = Some cause } }
 {
     Effects {
         acts: Rows::of(Vec::new(alloc)),
-        end: Some(Cause::Silent { since }),
+        end: Some(cause),
     }
 }
 

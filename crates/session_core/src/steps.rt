@@ -4,7 +4,7 @@
 ghost use Rattle.std.specs.Prelude.{◌≡◌, IfOk};
 ghost use Rattle.seq_gaps.specs.Line.{IsNumber};
 ghost use Rattle.session_core.specs.Carry.{IsNumbered};
-ghost use Rattle.session_core.specs.Steps.{no_number, wrong_name, misnamed, is_reset, reset, low, asks_nothing, in_order, early, on_time, by_number, step_of};
+ghost use Rattle.session_core.specs.Steps.{no_number, wrong_name, wrong_comp_id, is_reset, reset, low, asks_nothing, in_order, early, on_time, by_number, step_of};
 
 use crate::acts::{Act, Admin};
 use crate::causes::Cause;
@@ -67,7 +67,7 @@ pub(crate) fn step_of(
         return no_number(alloc);
     };
     if let Some(tag) = wrong_name(names, fields) {
-        return misnamed(alloc, expected, n, fields, tag);
+        return wrong_comp_id(alloc, expected, n, fields, tag);
     }
     if is_reset(fields) {
         return reset(alloc, expected, n, fields);
@@ -105,15 +105,15 @@ fn wrong_name(names: &Names, fields: &Fields<'_>) -> Option<u32>
 
 /// A wrong CompID: a Reject, a Logout, and the connection ends. The number is counted where it is
 /// the expected one, with nothing carried out.
-#[tactic(auto, unfolding(crate::specs::Steps::misnamed))]
-fn misnamed(
+#[tactic(auto, unfolding(crate::specs::Steps::wrong_comp_id))]
+fn wrong_comp_id(
     alloc: Global,
     expected: u32,
     n: u32,
     fields: &Fields<'_>,
     tag: u32,
 ) -> Result<Step, NoMemory>
-    ensures step { IfOk result (λ step. step ≡ misnamed expected n fields.now tag) }
+    ensures step { IfOk result (λ step. step ≡ wrong_comp_id expected n fields.now tag) }
     ensures numbered { IfOk result IsNumbered }
 {
     Ok(Step::Close {

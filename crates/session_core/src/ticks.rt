@@ -1,3 +1,6 @@
+/// How long a session that dialled waits for the answer to its Logon, in milliseconds.
+pub const ANSWER_WAIT: u64 = 10_000;
+
 /// What the clock asks of a session at a moment.
 #[derive(Clone, Copy, Debug, PartialEq, Eq)]
 pub(crate) enum Tick {
@@ -6,6 +9,6 @@ pub(crate) enum Tick {
     Beat,
     /// A TestRequest is due.
     Test,
-    /// The TestRequest that waits has got no answer in time.
+    /// The Logon or the TestRequest that waits has got no answer in time.
     Expire,
 }

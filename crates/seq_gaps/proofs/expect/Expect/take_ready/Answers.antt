@@ -1,7 +1,7 @@
 -- whether the least number held is the expected one decides
 use Rattle.std.proofs.Common.{ap, sym, ◌∙◌, is_some}
 use Rattle.seq_gaps.proofs.Lines.{line_taken}
-use Rattle.seq_gaps.proofs.Maps.{remove-absent}
+use Rattle.seq_gaps.proofs.Maps.{remove-absent, len-remove_held}
 use Rattle.seq_gaps.proofs.Places.{after_taking-none}
 use Rattle.seq_gaps.proofs.expect.Expect.take_ready.Goals as goal
 
@@ -18,3 +18,7 @@ returns-in_err-item-clause-line g c =
 pub invariant_of-self-2 : goal.invariant_of-self-2
 invariant_of-self-2 g c =
     rw c.take_first.ensures.rest (line_taken _ c.self.invariant (ap is_some (sym c.take_first.ensures.taken ∙ c.in_ok-item.was)))
+
+pub returns-clause-count : goal.returns-clause-count
+returns-clause-count g c =
+    rw (← c.self.view_is, c.take_first.ensures.rest) (λ _. len-remove_held c.self.inside.held c.self.inside.expected (ap is_some (sym c.take_first.ensures.taken ∙ c.in_ok-item.was)))
