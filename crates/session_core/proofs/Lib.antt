@@ -8,5 +8,6 @@ pub mod Left
 pub mod Moments
 pub mod Parts
 pub mod Prefixes
+pub mod Rises
 pub mod StepFacts
 pub mod States

@@ -16,6 +16,7 @@ use Rattle.session_core.specs.declared.acts.Act.{Act}
 use Rattle.session_core.specs.declared.names.Names.{Names}
 use Rattle.session_core.specs.declared.phases.Phase.TheVariants.{Off, On}
 use Rattle.session_core.specs.declared.tasks.Task.{Task}
+use Rattle.session_core.specs.declared.tasks.Task.TheVariants.{Nothing, Do, Fill}
 
 -- what holds of every session holds at first, and behind each call
 pub record StatesStayLawful : Type 0 where
@@ -98,6 +99,21 @@ abbrev pub NumbersGoForward : Type 0
 NumbersGoForward =
     (state : State) (body : List ℕ) (m heart : ℕ) → state.phase ≡ On heart
     → state.line.expected ≤ (after_receive state body m).line.expected
+
+-- a message that is no gap fill, and a line that holds none
+abbrev pub IsNoFill : Task → Type 0
+IsNoFill Nothing = Unit {0}
+IsNoFill (Do act) = Unit {0}
+IsNoFill (Fill to) = ⊥
+
+abbrev pub HoldsNoFills : Line Task → Type 0
+HoldsNoFills line = (n : ℕ) (task : Task) → get line.held n ≡ Some task → IsNoFill task
+
+-- Without gap fills the expected number rises by one for the message, and one for each that is held.
+abbrev pub RisesByWhatIsHeld : Type 0
+RisesByWhatIsHeld =
+    (p : Progress) (n : ℕ) (task : Task) → HoldsNoFills p.line → IsNoFill task
+    → (after_handling p n task).line.expected ≤ p.line.expected + len p.line.held + 1
 
 -- what a connection handles is what came first
 abbrev pub HandlesWhatCameFirst : Type 0

@@ -1,6 +1,6 @@
 //! Laws of the definitions that the contracts of this crate cite. The functions do nothing.
 
-ghost use Rattle.session_core.specs.Laws.{StatesStayLawful, ExpectedIsCarriedOut, ActsOfMessages, OnlyLogonsReset, SamenessLaws, MomentsDontMatter, RunsFollowBodies, RunsInParts, HandledInParts, LeavesNoneReady, NumbersGoForward, HandlesWhatCameFirst};
+ghost use Rattle.session_core.specs.Laws.{StatesStayLawful, ExpectedIsCarriedOut, ActsOfMessages, OnlyLogonsReset, SamenessLaws, MomentsDontMatter, RunsFollowBodies, RunsInParts, HandledInParts, LeavesNoneReady, NumbersGoForward, RisesByWhatIsHeld, HandlesWhatCameFirst};
 ghost use Rattle.session_core.specs.Lines.{LineLaws};
 
 use crate::tasks::Task;
@@ -75,6 +75,14 @@ pub fn leaves_none_ready()
 pub fn numbers_go_forward()
     ensures { NumbersGoForward }
 {}
+
+/// Where neither a message nor one that is held is a gap fill, the expected number rises by one for the
+/// message and one for each that is held, at most.
+pub fn rises_by_what_is_held()
+    ensures { RisesByWhatIsHeld }
+{
+    line_laws();
+}
 
 /// What a connection handles of the messages that it brings is what came first.
 pub fn handles_what_came_first()

@@ -166,7 +166,7 @@ impl Session {
             heart,
             reset: false,
         };
-        let effects = one_sent(alloc, logon)?;
+        let effects = send_one(alloc, logon)?;
         self.phase = Phase::Asked { heart };
         self.received = moment;
         self.sent = moment;
@@ -258,7 +258,7 @@ impl Session {
                 self.waiting = None;
                 Ok(effects)
             }
-            Err(cause) => Ok(ended(alloc, cause)),
+            Err(cause) => Ok(end_with(alloc, cause)),
         }
     }
 
@@ -307,19 +307,19 @@ impl Session {
         match self.tick_at(moment) {
             Tick::Quiet => Ok(nothing(alloc)),
             Tick::Beat => {
-                let effects = one_sent(alloc, Admin::Heartbeat { test: None })?;
+                let effects = send_one(alloc, Admin::Heartbeat { test: None })?;
                 self.sent = moment;
                 Ok(effects)
             }
             Tick::Test => {
-                let effects = one_sent(alloc, Admin::TestRequest)?;
+                let effects = send_one(alloc, Admin::TestRequest)?;
                 self.sent = moment;
                 self.waiting = Some(moment);
                 Ok(effects)
             }
             Tick::Expire => {
                 let since = self.received;
-                Ok(ended(alloc, Cause::Silent { since }))
+                Ok(end_with(alloc, Cause::Silent { since }))
             }
         }
     }
@@ -400,7 +400,7 @@ fn nothing(alloc: Global) -> Effects
 }
 
 /// One session message is sent.
-fn one_sent(alloc: Global, admin: Admin) -> Result<Effects, NoMemory>
+fn send_one(alloc: Global, admin: Admin) -> Result<Effects, NoMemory>
     ensures { IfOk result (λ effects. effects ≡ record { acts = Act.Send admin ∷ []; end = None }) }
 {
     let mut acts = Vec::with_capacity(alloc, 1)?;
@@ -412,7 +412,7 @@ fn one_sent(alloc: Global, admin: Admin) -> Result<Effects, NoMemory>
 }
 
 /// The connection is dropped with nothing sent.
-fn ended(alloc: Global, cause: Cause) -> Effects
+fn end_with(alloc: Global, cause: Cause) -> Effects
     ensures { result ≡ record { acts = []; end = Some cause } }
 {
     Effects {

@@ -188,7 +188,7 @@ fn early(alloc: Global, n: u32, fields: &Fields<'_>) -> Result<Step, NoMemory>
     ensures numbered { IfOk result IsNumbered }
 {
     if has_value(fields, 35, b"5") {
-        return Ok(logged_out(false));
+        return Ok(answer_logout(false));
     }
     if has_value(fields, 35, b"2") {
         let act = resend_answer(alloc, n, fields)?;
@@ -209,7 +209,7 @@ fn on_time(alloc: Global, n: u32, fields: &Fields<'_>) -> Result<Step, NoMemory>
     ensures numbered { IfOk result IsNumbered }
 {
     if has_value(fields, 35, b"5") {
-        return Ok(logged_out(true));
+        return Ok(answer_logout(true));
     }
     if has_value(fields, 35, b"2") {
         let act = resend_answer(alloc, n, fields)?;
@@ -219,7 +219,7 @@ fn on_time(alloc: Global, n: u32, fields: &Fields<'_>) -> Result<Step, NoMemory>
 }
 
 /// A Logout is answered by a Logout, and the connection ends. FIX 4.4, volume 2, "Logout".
-fn logged_out(counts: bool) -> Step
+fn answer_logout(counts: bool) -> Step
     ensures { result ≡ Step.Close None (Admin.Logout None) Cause.LoggedOut counts }
 {
     Step::Close {

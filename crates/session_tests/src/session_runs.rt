@@ -129,7 +129,7 @@ impl Both {
 fn generated_runs_are_told_alike(rt: HostRuntime) -> Result<(), Fail> {
     let alloc = rt.alloc();
     let mut draw = Draw::new(2027);
-    for _ in 0..60u32 {
+    for _ in 0..300u32 {
         let mut both = Both {
             fast: Desk::new(alloc)?,
             plain: PlainSession::new(alloc),
