@@ -5,27 +5,27 @@ use Rattle.std.specs.Option.{option_copied}
 use Rattle.std.specs.Borrow.{Bor}
 use Rattle.std.proofs.lemmas.Bool.{cases_lt, cases_eq, ne_eqb, cond-false, false≢true}
 use Rattle.std.proofs.lemmas.Option.{slice_get_past}
-use Rattle.message_log.specs.Series.{numbered, series_at, entry_at, HasNoNumber}
+use Rattle.message_log.specs.Series.{entry_in, series_at, entry_at, HasNoNumber}
 use Rattle.message_log.proofs.Places.{is_some_within, is_some-option_copied}
 
 module _ {T : Type 0} where
-  pub numbered_is : (entries : List T) (n : ℕ) → 0 < n → numbered entries n ≡ slice_get entries (n - 1)
-  numbered_is entries n h = cond-false (n == 0) None (slice_get entries (n - 1)) (ne_eqb n 0 (λ e. omega arith))
+  pub entry_in_is : (entries : List T) (n : ℕ) → 0 < n → entry_in entries n ≡ slice_get entries (n - 1)
+  entry_in_is entries n h = cond-false (n == 0) None (slice_get entries (n - 1)) (ne_eqb n 0 (λ e. omega arith))
 
-  pub none_past_end : (entries : List T) (n : ℕ) → length entries < n → numbered entries n ≡ None
-  none_past_end entries n h = numbered_is entries n (omega arith) ∙ slice_get_past entries (n - 1) (omega arith)
+  pub none_past_end : (entries : List T) (n : ℕ) → length entries < n → entry_in entries n ≡ None
+  none_past_end entries n h = entry_in_is entries n (omega arith) ∙ slice_get_past entries (n - 1) (omega arith)
 
-  pub none_at_zero : (entries : List T) (n : ℕ) → n ≡ 0 → numbered entries n ≡ None
-  none_at_zero entries n e = ap (λ k. numbered entries k) e
+  pub none_at_zero : (entries : List T) (n : ℕ) → n ≡ 0 → entry_in entries n ≡ None
+  none_at_zero entries n e = ap (λ k. entry_in entries k) e
 
-  pub none_in_nothing : (n : ℕ) → numbered {T = T} [] n ≡ None
+  pub none_in_nothing : (n : ℕ) → entry_in {T = T} [] n ≡ None
   none_in_nothing n = elim (cases_eq n 0) [
     | inl e ↦ none_at_zero [] n e
     | inr some ↦ none_past_end [] n (let more : 0 < n = omega arith in more)
   ]
 
-  some_within : (entries : List T) (n : ℕ) → 0 < n → n ≤ length entries → is_some (numbered entries n) ≡ true
-  some_within entries n h l = ap (λ (o : Option T). is_some o) (numbered_is entries n h) ∙ is_some_within entries (n - 1) (omega arith)
+  some_within : (entries : List T) (n : ℕ) → 0 < n → n ≤ length entries → is_some (entry_in entries n) ≡ true
+  some_within entries n h l = ap (λ (o : Option T). is_some o) (entry_in_is entries n h) ∙ is_some_within entries (n - 1) (omega arith)
 
   -- a look-up by number tells whether there is that number
   pub no_number : (found : Option (Bor T)) (log : List (List T)) (k n : ℕ) → option_copied found ≡ entry_at log k n → IsNone found ↔ HasNoNumber log k n

@@ -7,7 +7,7 @@ use Rattle.std.proofs.lemmas.List.Elements.{All-weaker, All-push, All-get_or}
 use Rattle.message_log.specs.declared.entry.OutEntry.{OutEntry}
 use Rattle.message_log.specs.declared.stretches.Stretch.{Stretch}
 use Rattle.message_log.specs.Series.{series_at, with_entry}
-use Rattle.message_log.specs.Stretches.{is_session, stretch_count, is_before, Covers, AnyCovers, AreInOrder, IsClosed, IsGrowing, GrowsOver, growing_count, IsIndex, closed_with, stretch_at, no_stretch}
+use Rattle.message_log.specs.Stretches.{is_session, stretch_count, is_before, Covers, AnyCovers, AreInOrder, IsClosed, IsGrowing, GrowsOver, growing_count, IsIndex, closed_after, stretch_at, no_stretch}
 use Rattle.message_log.proofs.SeriesLists.{length-with_entry, no_series, present_with_entry, other_with_entry, other_turned, present_turned}
 use Rattle.message_log.proofs.Sessions.{session-push_old, session-push_new, session-within, stretch_count-with_entry, stretch_count-turned, one_more}
 
@@ -95,7 +95,7 @@ module _ (log later : List (List OutEntry)) (keeps : Keeps log later) (no_more :
     past = λ e. keeps.past e;
   }
 
-  closing : (closed : List Stretch) (growing : Option ℕ) → IsIndex log closed growing → IsIndex later (closed_with closed growing (length log) (length (present log))) None
+  closing : (closed : List Stretch) (growing : Option ℕ) → IsIndex log closed growing → IsIndex later (closed_after closed growing (length log) (length (present log))) None
   closing closed None index = record {
     closed_ones = All-weaker (IsClosed log) (IsClosed later) (closed_kept log later keeps) closed index.closed_ones;
     in_order = index.in_order;
@@ -120,7 +120,7 @@ module _ (log later : List (List OutEntry)) (keeps : Keeps log later) (no_more :
       }
 
 -- a series without an entry follows
-pub index_turned : (log : List (List OutEntry)) (closed : List Stretch) (growing : Option ℕ) → IsIndex log closed growing → IsIndex (log ++ [] ∷ []) (closed_with closed growing (length log) (length (series_at log (length log)))) None
+pub index_turned : (log : List (List OutEntry)) (closed : List Stretch) (growing : Option ℕ) → IsIndex log closed growing → IsIndex (log ++ [] ∷ []) (closed_after closed growing (length log) (length (series_at log (length log)))) None
 index_turned log closed growing index =
     closing log (log ++ [] ∷ []) keeps no_more (stretch_count-turned log) closed growing index
   where
@@ -207,7 +207,7 @@ module _ (log : List (List OutEntry)) (entry : OutEntry) (some : 0 < length log)
       ]
 
   -- no session entry: the stretch at the end is closed
-  pub index_app : (closed : List Stretch) (growing : Option ℕ) → entry.admin ≡ false → IsIndex log closed growing → IsIndex (with_entry log entry) (closed_with closed growing (length log) (length (series_at log (length log)))) None
+  pub index_app : (closed : List Stretch) (growing : Option ℕ) → entry.admin ≡ false → IsIndex log closed growing → IsIndex (with_entry log entry) (closed_after closed growing (length log) (length (series_at log (length log)))) None
   index_app closed growing app index =
       closing log (with_entry log entry) keeps_entry no_more same_count closed growing index
     where

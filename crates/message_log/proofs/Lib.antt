@@ -5,5 +5,6 @@ pub mod SeriesLists
 pub mod Sessions
 pub mod IndexKept
 pub mod LogParts
+pub mod Growing
 pub mod Entries
 pub mod StretchEnds

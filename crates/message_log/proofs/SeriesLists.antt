@@ -4,9 +4,9 @@ use Rattle.std.specs.List.{slice_range, sum_by}
 use Rattle.std.proofs.lemmas.Bool.{cases_lt, cases_eq, ne_eqb, cond-false}
 use Rattle.std.proofs.lemmas.List.{take_rest, drop_all, take-append-le, drop-append-le, get_or_past, get_or_append_left, get_or_push, length_push}
 use Rattle.std.proofs.lemmas.List.Sums.{sum_by-cons}
-use Rattle.message_log.specs.Series.{series_at, with_entry, cut, AreStarts, last_start}
+use Rattle.message_log.specs.Series.{series_at, with_entry, series_from, AreStarts, last_start}
 
--- a list from the place on where it is cut
+-- the places at which series begin
 pub start_within : (from : ℕ) (starts : List ℕ) (count : ℕ) → AreStarts from starts count → from ≤ count
 start_within from [] count h = h
 start_within from (start ∷ starts) count h = let rest = start_within start starts count h.1 in omega (arith, h.0)
@@ -28,11 +28,11 @@ last_within from [] count h = h
 last_within from (start ∷ starts) count h = last_within start starts count h.1
 
 module _ {T : Type 0} where
-  pub length-cut : (from : ℕ) (starts : List ℕ) (items : List T) → length (cut from starts items) ≡ length starts + 1
-  length-cut from [] items = refl
-  length-cut from (start ∷ starts) items = let rest = length-cut start starts items in omega (arith, rest)
+  pub length-series_from : (from : ℕ) (starts : List ℕ) (items : List T) → length (series_from from starts items) ≡ length starts + 1
+  length-series_from from [] items = refl
+  length-series_from from (start ∷ starts) items = let rest = length-series_from start starts items in omega (arith, rest)
 
-  with_entry-behind : (first : List T) (start : ℕ) (starts : List ℕ) (items : List T) (entry : T) → with_entry (first ∷ cut start starts items) entry ≡ first ∷ with_entry (cut start starts items) entry
+  with_entry-behind : (first : List T) (start : ℕ) (starts : List ℕ) (items : List T) (entry : T) → with_entry (first ∷ series_from start starts items) entry ≡ first ∷ with_entry (series_from start starts items) entry
   with_entry-behind first start [] items entry = refl
   with_entry-behind first start (next ∷ starts) items entry = refl
 
@@ -41,38 +41,38 @@ module _ {T : Type 0} where
       ap (λ ts. take (to - from) ts) (drop-append-le from items (entry ∷ []) (omega arith))
       ∙ take-append-le (to - from) (drop from items) (entry ∷ []) (omega (arith, length-drop from items))
 
-  pub cut-push : (from : ℕ) (starts : List ℕ) (items : List T) (entry : T) → AreStarts from starts (length items) → cut from starts (items ++ entry ∷ []) ≡ with_entry (cut from starts items) entry
-  cut-push from [] items entry h = ap (λ ts. ts ∷ []) (drop-append-le from items (entry ∷ []) h)
-  cut-push from (start ∷ starts) items entry h =
+  pub series_from-push : (from : ℕ) (starts : List ℕ) (items : List T) (entry : T) → AreStarts from starts (length items) → series_from from starts (items ++ entry ∷ []) ≡ with_entry (series_from from starts items) entry
+  series_from-push from [] items entry h = ap (λ ts. ts ∷ []) (drop-append-le from items (entry ∷ []) h)
+  series_from-push from (start ∷ starts) items entry h =
       let same = slice_range-push from start items entry h.0 (start_within start starts (length items) h.1) in
-      ap (λ ts. ts ∷ cut start starts (items ++ entry ∷ [])) same
-      ∙ ap (λ later. slice_range items from start ∷ later) (cut-push start starts items entry h.1)
+      ap (λ ts. ts ∷ series_from start starts (items ++ entry ∷ [])) same
+      ∙ ap (λ later. slice_range items from start ∷ later) (series_from-push start starts items entry h.1)
       ∙ sym (with_entry-behind (slice_range items from start) start starts items entry)
 
-  pub cut-turned : (from : ℕ) (starts : List ℕ) (items : List T) → AreStarts from starts (length items) → cut from (starts ++ length items ∷ []) items ≡ cut from starts items ++ [] ∷ []
-  cut-turned from [] items h =
+  pub series_from-turned : (from : ℕ) (starts : List ℕ) (items : List T) → AreStarts from starts (length items) → series_from from (starts ++ length items ∷ []) items ≡ series_from from starts items ++ [] ∷ []
+  series_from-turned from [] items h =
       ap (λ ts. ts ∷ drop (length items) items ∷ []) (take_rest items from)
       ∙ ap (λ ts. drop from items ∷ ts ∷ []) (drop_all (length items) items (omega arith))
-  cut-turned from (start ∷ starts) items h = ap (λ later. slice_range items from start ∷ later) (cut-turned start starts items h.1)
+  series_from-turned from (start ∷ starts) items h = ap (λ later. slice_range items from start ∷ later) (series_from-turned start starts items h.1)
 
-  -- a series of the cut list
-  pub cut_at : (from : ℕ) (starts : List ℕ) (items : List T) (k : ℕ) → k ≤ length starts → get_or (cut from starts items) k [] ≡ slice_range items (get_or (from ∷ starts) k 0) (get_or (starts ++ length items ∷ []) k 0)
-  cut_at from [] items zero h = sym (take_rest items from)
-  cut_at from [] items (suc k) h = absurd (omega arith)
-  cut_at from (start ∷ starts) items zero h = refl
-  cut_at from (start ∷ starts) items (suc k) h = cut_at start starts items k (omega arith)
+  -- a series of the list
+  pub series_from_at : (from : ℕ) (starts : List ℕ) (items : List T) (k : ℕ) → k ≤ length starts → get_or (series_from from starts items) k [] ≡ slice_range items (get_or (from ∷ starts) k 0) (get_or (starts ++ length items ∷ []) k 0)
+  series_from_at from [] items zero h = sym (take_rest items from)
+  series_from_at from [] items (suc k) h = absurd (omega arith)
+  series_from_at from (start ∷ starts) items zero h = refl
+  series_from_at from (start ∷ starts) items (suc k) h = series_from_at start starts items k (omega arith)
 
-  pub cut_last : (from : ℕ) (starts : List ℕ) (items : List T) → get_or (cut from starts items) (length starts) [] ≡ drop (last_start from starts) items
-  cut_last from [] items = refl
-  cut_last from (start ∷ starts) items = cut_last start starts items
+  pub series_from_last : (from : ℕ) (starts : List ℕ) (items : List T) → get_or (series_from from starts items) (length starts) [] ≡ drop (last_start from starts) items
+  series_from_last from [] items = refl
+  series_from_last from (start ∷ starts) items = series_from_last start starts items
 
-  pub sum_by-cut : (from : ℕ) (starts : List ℕ) (items : List T) → AreStarts from starts (length items) → sum_by (λ ts. length ts) (cut from starts items) ≡ length items - from
-  sum_by-cut from [] items h = sum_by-cons (λ (ts : List T). length ts) (drop from items) [] ∙ (let e = length-drop from items in omega arith)
-  sum_by-cut from (start ∷ starts) items h =
-      let rest = sum_by-cut start starts items h.1 in
+  pub sum_by-series_from : (from : ℕ) (starts : List ℕ) (items : List T) → AreStarts from starts (length items) → sum_by (λ ts. length ts) (series_from from starts items) ≡ length items - from
+  sum_by-series_from from [] items h = sum_by-cons (λ (ts : List T). length ts) (drop from items) [] ∙ (let e = length-drop from items in omega arith)
+  sum_by-series_from from (start ∷ starts) items h =
+      let rest = sum_by-series_from start starts items h.1 in
       let inside = start_within start starts (length items) h.1 in
       let size : length (slice_range items from start) ≡ start - from = omega (arith, length-take (start - from) (drop from items), length-drop from items, h.0) in
-      sum_by-cons (λ (ts : List T). length ts) (slice_range items from start) (cut start starts items) ∙ omega (arith, h.0)
+      sum_by-cons (λ (ts : List T). length ts) (slice_range items from start) (series_from start starts items) ∙ omega (arith, h.0)
 
 -- the bounds of a series
 pub bounds_in : (from : ℕ) (starts : List ℕ) (count k : ℕ) → AreStarts from starts count → k ≤ length starts → (get_or (from ∷ starts) k 0 ≤ get_or (starts ++ count ∷ []) k 0) × (get_or (starts ++ count ∷ []) k 0 ≤ count)

@@ -10,13 +10,13 @@ use Rattle.message_log.specs.Series.{series_at, with_entry}
 use Rattle.message_log.specs.Stretches.{is_session, stretches_in, stretch_count}
 use Rattle.message_log.proofs.Places.{slice_get-append_left, slice_get-append_right}
 use Rattle.message_log.proofs.SeriesLists.{series_is}
-use Rattle.message_log.proofs.Entries.{numbered_is}
+use Rattle.message_log.proofs.Entries.{entry_in_is}
 
 abbrev pub session : Option OutEntry → Bool
 session found = option_map_or (λ entry. entry.admin) found false
 
 pub at_number : (entries : List OutEntry) (n : ℕ) → 0 < n → is_session entries n ≡ session (slice_get entries (n - 1))
-at_number entries n h = ap session (numbered_is entries n h)
+at_number entries n h = ap session (entry_in_is entries n h)
 
 module _ (entries : List OutEntry) (entry : OutEntry) where
   pub session-push_old : (n : ℕ) → n ≤ length entries → is_session (entries ++ entry ∷ []) n ≡ is_session entries n

@@ -4,9 +4,9 @@ use Rattle.message_log.specs.declared.pages.TheConstants.{PAGE, MOST_PAGES}
 use Rattle.message_log.specs.Stored.{Stored}
 
 -- what stands on the pages, one after the other
-abbrev pub joined : {T : Type 0} → List (Stored T) → List T
-joined [] = []
-joined (page ∷ pages) = page.items ++ joined pages
+abbrev pub items_on : {T : Type 0} → List (Stored T) → List T
+items_on [] = []
+items_on (page ∷ pages) = page.items ++ items_on pages
 
 -- every place of the page is taken
 abbrev pub IsFull : {T : Type 0} → Stored T → Type 0

@@ -3,11 +3,11 @@ use Rattle.std.specs.Prelude.{◌≡◌, ℕ, ◌+◌, ◌<◌, ◌≤◌, ◌�
 use Rattle.std.specs.Option.{option_map_or}
 use Rattle.message_log.specs.declared.entry.OutEntry.{OutEntry}
 use Rattle.message_log.specs.declared.stretches.Stretch.{Stretch}
-use Rattle.message_log.specs.Series.{series_at, numbered}
+use Rattle.message_log.specs.Series.{series_at, entry_in}
 
 -- whether the number is a session entry's
 abbrev pub is_session : List OutEntry → ℕ → Bool
-is_session entries n = option_map_or (λ entry. entry.admin) (numbered entries n) false
+is_session entries n = option_map_or (λ entry. entry.admin) (entry_in entries n) false
 
 -- z is the greatest number such that all entries from n to z are session entries
 pub record IsStretchEnd (entries : List OutEntry) (n z : ℕ) : Type 0 where
@@ -84,6 +84,6 @@ pub record IsIndex (log : List (List OutEntry)) (closed : List Stretch) (growing
   pub count : length closed + growing_count growing ≡ stretch_count log
 
 -- the stretch at the log's end is closed at its last number
-abbrev pub closed_with : List Stretch → Option ℕ → ℕ → ℕ → List Stretch
-closed_with closed None k last = closed
-closed_with closed (Some first) k last = closed ++ (record { series = k; first = first; last = last }) ∷ []
+abbrev pub closed_after : List Stretch → Option ℕ → ℕ → ℕ → List Stretch
+closed_after closed None k last = closed
+closed_after closed (Some first) k last = closed ++ (record { series = k; first = first; last = last }) ∷ []

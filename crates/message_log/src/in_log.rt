@@ -7,8 +7,8 @@ use crate::pages::Paged;
 use crate::shelf::Steps;
 use gate_io::{Bytes, NoMemory};
 use std::alloc::Global;
-use std::marker::Model;
-use std::sync::ledger::Ledger;
+use std::marker::{Brand, Model};
+use std::sync::ledger::{Blank, Ledger};
 
 /// The bodies of accepted messages. A body's position is its place in the log, from 0. Contracts see
 /// the list of the bodies, and how many more are taken with no memory asked for.
@@ -40,6 +40,7 @@ impl InLog {
     pub fn reserve(&mut self, alloc: Global, n: usize) -> Result<(), NoMemory>
         ensures items { self.new.items ≡ self.old.items }
         ensures room { OnOk result (n ≤ self.new.spare) }
+        ensures with_room { n ≤ self.old.spare → IsOk result }
         ensures kept { self.old.spare ≤ self.new.spare }
     {
         self.bodies.reserve(alloc, n)
@@ -64,6 +65,25 @@ impl InLog {
         ensures few { result ≤ 2 ^ 63 }
     {
         self.bodies.len()
+    }
+
+    /// The body at a position.
+    pub fn body(&self, pos: u64) -> Option<&[u8]>
+        ensures body { option_copied result ≡ slice_get self.now.items pos }
+        ensures none { IsNone result ↔ (length self.now.items ≤ pos) }
+    {
+        self.body_in::<Brand>(pos, Blank::new(1))
+    }
+
+    fn body_in<L: Ledger>(&self, pos: u64, blank: Blank) -> Option<&[u8]>
+        requires name { blank.name ≡ L.name }
+        requires parts { blank.parts ≡ L.parts }
+        requires some { 0 < blank.parts }
+        ensures body { option_copied result ≡ slice_get self.now.items pos }
+        ensures none { IsNone result ↔ (length self.now.items ≤ pos) }
+    {
+        let mut steps = Steps::<L>::new(blank);
+        self.get(pos, &mut steps)
     }
 
     /// The body at a position, by at most 3 look-ups.

@@ -6,17 +6,15 @@
 
 mod entry;
 mod in_log;
+mod laws;
 mod out_log;
 mod pages;
-#[cfg(test)]
-mod plain;
 mod shelf;
 mod stretches;
-#[cfg(test)]
-mod tests;
 
 pub use entry::OutEntry;
 pub use in_log::InLog;
-pub use out_log::OutLog;
+pub use laws::{entries_are_pushed, entries_stay, logs_go_on};
+pub use out_log::{LAST_SERIES, OutLog};
 pub use pages::{PAGE, Paged};
 pub use shelf::{Shelf, Steps};

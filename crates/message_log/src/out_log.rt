@@ -1,8 +1,9 @@
 //! The log of numbered messages.
 
-ghost use Rattle.std.specs.Prelude.{◌≡◌, ℕ, ◌+◌, ◌-◌, ◌*◌, ◌^◌, ◌<◌, ◌≤◌, ◌↔◌, ◌⊎◌, [], ◌∷◌, ◌++◌, length, slice_index, sum_by, false, IfOk, OnOk, OnErr, IsOk, IsNone, IfSome, MatchOption};
+ghost use Rattle.std.specs.Prelude.{◌≡◌, ℕ, ◌+◌, ◌-◌, ◌*◌, ◌^◌, ◌<◌, ◌≤◌, ◌↔◌, ◌⊎◌, [], ◌∷◌, ◌++◌, length, slice_index, sum_by, false, IfOk, OnOk, OnErr, IsOk, IsNone, Some, IfSome, MatchOption};
 ghost use Rattle.std.specs.Option.{option_copied};
 ghost use Rattle.message_log.specs.Series.{series_at, entry_at, with_entry, IsNoSeries, HasNoNumber};
+ghost use Rattle.message_log.specs.Growth.{GoesOn};
 ghost use Rattle.message_log.specs.Stretches.{is_session, IsStretchEnd, stretch_count};
 
 use crate::entry::OutEntry;
@@ -13,6 +14,9 @@ use gate_io::NoMemory;
 use std::alloc::Global;
 use std::marker::{Brand, Model};
 use std::sync::ledger::{Blank, Ledger};
+
+/// The last series that a log can have.
+pub const LAST_SERIES: u32 = u32::MAX;
 
 /// The messages that were numbered, in series: a series begins at each reset of the numbers. Contracts
 /// see the list of the series, each the list of its entries, and how many more calls of `push` and
@@ -31,12 +35,12 @@ pub struct OutLog {
 impl Model for OutLog {
     ghost use Rattle.std.specs.Prelude.{min};
     ghost use Rattle.message_log.specs.declared.entry.OutEntry.{OutEntry};
-    ghost use Rattle.message_log.specs.Series.{Numbered, cut};
+    ghost use Rattle.message_log.specs.Series.{SeriesLog, series_from};
     ghost use Rattle.message_log.specs.OutLog.{IsOutLog};
 
-    ghost Value = { Numbered OutEntry };
+    ghost Value = { SeriesLog OutEntry };
 
-    ghost view = { λ l. record { series = cut 0 l.starts.items l.entries.items; spare = min l.entries.spare (min l.starts.spare l.stretches.closed.spare) } };
+    ghost view = { λ l. record { series = series_from 0 l.starts.items l.entries.items; spare = min l.entries.spare (min l.starts.spare l.stretches.closed.spare) } };
 
     ghost invariant = { λ l. IsOutLog l.entries.items l.starts.items l.start l.stretches.closed.items l.stretches.growing };
 }
@@ -44,7 +48,7 @@ impl Model for OutLog {
 impl OutLog {
     /// Series 1, with no entry. It takes no memory.
     pub fn new(alloc: Global) -> OutLog
-        ensures { result.series ≡ [] ∷ [] }
+        ensures { result ≡ record { series = [] ∷ []; spare = 0 } }
     {
         OutLog {
             entries: Paged::new(alloc),
@@ -58,6 +62,7 @@ impl OutLog {
     pub fn reserve(&mut self, alloc: Global, n: usize) -> Result<(), NoMemory>
         ensures series { self.new.series ≡ self.old.series }
         ensures room { OnOk result (n ≤ self.new.spare) }
+        ensures with_room { n ≤ self.old.spare → IsOk result }
         ensures kept { self.old.spare ≤ self.new.spare }
     {
         self.entries.reserve(alloc, n)?;
@@ -70,7 +75,10 @@ impl OutLog {
     pub fn push(&mut self, alloc: Global, entry: OutEntry) -> Result<u64, NoMemory>
         ensures ok { OnOk result (self.new.series ≡ with_entry self.old.series entry) }
         ensures number { IfOk result (λ n. n ≡ length (series_at self.old.series (length self.old.series)) + 1) }
+        // The number names the entry in the present series.
+        ensures named { IfOk result (λ n. entry_at self.new.series (length self.new.series) n ≡ Some entry) }
         ensures err { OnErr result (self.new.series ≡ self.old.series) }
+        ensures goes_on { GoesOn self.old.series self.new.series }
         ensures with_spare { 0 < self.old.spare → IsOk result }
         ensures kept { self.old.spare ≤ self.new.spare + 1 }
     {
@@ -86,10 +94,11 @@ impl OutLog {
     /// Begins the next series, whose numbers start again at 1, and answers which it is. With spare
     /// places it takes no memory.
     pub fn turn_over(&mut self, _alloc: Global) -> Result<u32, NoMemory>
-        requires { length self.old.series < 4_294_967_295 }
+        requires { length self.old.series < LAST_SERIES }
         ensures ok { OnOk result (self.new.series ≡ self.old.series ++ [] ∷ []) }
         ensures series { IfOk result (λ k. k ≡ length self.old.series + 1) }
         ensures err { OnErr result (self.new.series ≡ self.old.series) }
+        ensures goes_on { GoesOn self.old.series self.new.series }
         ensures with_spare { 0 < self.old.spare → IsOk result }
         ensures kept { self.old.spare ≤ self.new.spare + 1 }
     {
@@ -139,6 +148,25 @@ impl OutLog {
         let mut steps = Steps::<L>::new(blank);
         let (start, end) = bounds(&self.starts, self.entries.len(), series, &mut steps)?;
         Some(end - start)
+    }
+
+    /// The entry with a number of a series.
+    pub fn entry(&self, series: u32, number: u64) -> Option<&OutEntry>
+        ensures entry { option_copied result ≡ entry_at self.now.series series number }
+        ensures none { IsNone result ↔ HasNoNumber self.now.series series number }
+    {
+        self.entry_in::<Brand>(series, number, Blank::new(1))
+    }
+
+    fn entry_in<L: Ledger>(&self, series: u32, number: u64, blank: Blank) -> Option<&OutEntry>
+        requires name { blank.name ≡ L.name }
+        requires parts { blank.parts ≡ L.parts }
+        requires some { 0 < blank.parts }
+        ensures entry { option_copied result ≡ entry_at self.now.series series number }
+        ensures none { IsNone result ↔ HasNoNumber self.now.series series number }
+    {
+        let mut steps = Steps::<L>::new(blank);
+        self.get(series, number, &mut steps)
     }
 
     /// The entry with a number of a series, by at most 4 look-ups.

@@ -31,13 +31,13 @@ pub struct Paged<T> {
 impl<T> Model for Paged<T> {
     ghost use Rattle.std.specs.Prelude.{◌++◌};
     ghost use Rattle.message_log.specs.Stored.{Stored, stored_code};
-    ghost use Rattle.message_log.specs.Pages.{joined, IsPaged};
+    ghost use Rattle.message_log.specs.Pages.{items_on, IsPaged};
 
     ghost Value = { Stored T };
 
     ghost coded = { stored_code T.code };
 
-    ghost view = { λ p. record { items = joined p.full.items ++ p.last.items; spare = p.spare } };
+    ghost view = { λ p. record { items = items_on p.full.items ++ p.last.items; spare = p.spare } };
 
     ghost invariant = { λ p. IsPaged p.full p.last p.ready.items p.spare };
 }
@@ -85,6 +85,7 @@ impl<T: Drop> Paged<T> {
     pub fn reserve(&mut self, alloc: Global, n: usize) -> Result<(), NoMemory>
         ensures items { self.new.items ≡ self.old.items }
         ensures room { OnOk result (n ≤ self.new.spare) }
+        ensures with_room { n ≤ self.old.spare → IsOk result }
         ensures kept { self.old.spare ≤ self.new.spare }
     {
         if n <= self.spare {

@@ -1,7 +1,7 @@
 //! Where the stretches of session entries lie.
 
 ghost use Rattle.std.specs.Prelude.{◌≡◌, ℕ, ◌+◌, ◌-◌, ◌*◌, ◌^◌, ◌<◌, ◌≤◌, ◌∷◌, ◌++◌, [], length, IfSome, IfNone, None, MatchOption};
-ghost use Rattle.message_log.specs.Stretches.{AreInOrder, AnyCovers, Covers, closed_with, stretch_at};
+ghost use Rattle.message_log.specs.Stretches.{AreInOrder, AnyCovers, Covers, closed_after, stretch_at};
 
 use crate::shelf::{Shelf, Steps};
 use std::alloc::Global;
@@ -37,7 +37,7 @@ impl Stretches {
     /// Closes the stretch at the log's end, if there is one.
     pub(crate) fn close(&mut self, series: u32, last: u64)
         requires { 0 < self.old.closed.spare }
-        ensures closed { self.new.closed.items ≡ closed_with self.old.closed.items self.old.growing series last }
+        ensures closed { self.new.closed.items ≡ closed_after self.old.closed.items self.old.growing series last }
         ensures growing { self.new.growing ≡ None }
         ensures kept { self.old.closed.spare ≤ self.new.closed.spare + 1 }
     {
@@ -72,7 +72,7 @@ impl Stretches {
         requires room { 0 < self.old.closed.spare }
         requires from_one { 0 < number }
         ensures closed { self.new.closed.items ≡ (if admin then self.old.closed.items
-            else closed_with self.old.closed.items self.old.growing series (number - 1)) }
+            else closed_after self.old.closed.items self.old.growing series (number - 1)) }
         ensures growing { self.new.growing ≡ (if admin then Some (unwrap_or self.old.growing number) else None) }
         ensures kept { self.old.closed.spare ≤ self.new.closed.spare + 1 }
     {

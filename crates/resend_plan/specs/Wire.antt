@@ -19,26 +19,26 @@ behind_type [] = []
 behind_type (b ∷ bytes) = if b == 1 then bytes else behind_type bytes
 
 -- a field: its tag and `=`, its value, and SOH
-abbrev pub field : List ℕ → List ℕ → List ℕ
-field tag value = tag ++ (value ++ 1 ∷ [])
+abbrev pub field_text : List ℕ → List ℕ → List ℕ
+field_text tag value = tag ++ (value ++ 1 ∷ [])
 
 -- a moment as a UTCTimestamp: a later one than the last is taken as that one
 unfoldable pub stamp : ℕ → List ℕ
 stamp at = stamp_of (min at LAST_MOMENT)
 
 -- SendingTime (52) alone, or between PossDupFlag (43) and OrigSendingTime (122)
-unfoldable pub sending : ℕ → Option ℕ → List ℕ
-sending at None = field (codes "52=") (stamp at)
-sending at (Some original) = field (codes "43=") (codes "Y") ++ field (codes "52=") (stamp at) ++ field (codes "122=") (stamp original)
+unfoldable pub times : ℕ → Option ℕ → List ℕ
+times at None = field_text (codes "52=") (stamp at)
+times at (Some original) = field_text (codes "43=") (codes "Y") ++ field_text (codes "52=") (stamp at) ++ field_text (codes "122=") (stamp original)
 
 -- type, SenderCompID (49), TargetCompID (56) and MsgSeqNum (34)
-unfoldable pub opening : Names2 → List ℕ → ℕ → List ℕ
-opening names kind number =
-    kind ++ field (codes "49=") names.us ++ field (codes "56=") names.them ++ field (codes "34=") (decimal number)
+unfoldable pub header : Names2 → List ℕ → ℕ → List ℕ
+header names kind number =
+    kind ++ field_text (codes "49=") names.us ++ field_text (codes "56=") names.them ++ field_text (codes "34=") (decimal number)
 
 -- and then the times, and the rest
 abbrev pub message : Names2 → List ℕ → ℕ → List ℕ → List ℕ → List ℕ
-message names kind number times rest = opening names kind number ++ times ++ rest
+message names kind number times rest = header names kind number ++ times ++ rest
 
 -- an entry that stands for none
 abbrev pub no_entry : OutEntry
@@ -58,9 +58,9 @@ NamesEntry log (GapFill series number to at) = Unit {0}
 unfoldable pub body_of : Names2 → List (List OutEntry) → WireItem → List ℕ
 body_of names log (New series number) =
     let entry = entry_of log series number in
-    message names (type_field entry.body) number (sending entry.at None) (behind_type entry.body)
+    message names (type_field entry.body) number (times entry.at None) (behind_type entry.body)
 body_of names log (Again series number at) =
     let entry = entry_of log series number in
-    message names (type_field entry.body) number (sending at (Some entry.at)) (behind_type entry.body)
+    message names (type_field entry.body) number (times at (Some entry.at)) (behind_type entry.body)
 body_of names log (GapFill series number to at) =
-    message names (field (codes "35=") (codes "4")) number (sending at (Some at)) (field (codes "123=") (codes "Y") ++ field (codes "36=") (decimal to))
+    message names (field_text (codes "35=") (codes "4")) number (times at (Some at)) (field_text (codes "123=") (codes "Y") ++ field_text (codes "36=") (decimal to))

@@ -1,5 +1,18 @@
 use gate_io::Bytes;
 
+/// The most bytes of a CompID.
+pub const LONGEST_NAME: usize = 32;
+
+/// The most bytes of a body that is logged.
+pub const LONGEST_BODY: usize = 8_192;
+
+/// The most bytes of a header beside the type field and the values of the CompIDs: their tags, the
+/// number, and the three fields of what is sent again.
+pub const LONGEST_HEADER: usize = 88;
+
+/// The most bytes of a gap fill beside its header: its type field, and the fields behind the times.
+pub const LONGEST_GAP_FILL: usize = 35;
+
 /// A message that is to be written on a connection. It names its series, since the numbers may have
 /// been reset before it is written.
 #[derive(Clone, Copy, Debug, PartialEq, Eq)]

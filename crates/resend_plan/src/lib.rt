@@ -6,13 +6,11 @@
 #![tactic(auto)]
 
 mod item;
-#[cfg(test)]
-mod plain;
+mod laws;
 mod planning;
-#[cfg(test)]
-mod tests;
 mod wire;
 
-pub use item::{Names2, WireItem};
+pub use item::{LONGEST_BODY, LONGEST_GAP_FILL, LONGEST_HEADER, LONGEST_NAME, Names2, WireItem};
+pub use laws::{items_stay, logs_stay_fit, plans_answer, texts_are_bodies};
 pub use planning::plan;
 pub use wire::wire_body;

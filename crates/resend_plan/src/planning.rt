@@ -1,8 +1,9 @@
 //! The plan of a resend.
 
-ghost use Rattle.std.specs.Prelude.{◌≡◌, ◌<◌, ◌≤◌, length, IfOk};
+ghost use Rattle.std.specs.Prelude.{◌≡◌, ◌<◌, ◌≤◌, ◌↔◌, [], length, flat_map, All, IfOk};
 ghost use Rattle.message_log.specs.Series.{series_at};
-ghost use Rattle.resend_plan.specs.Plan.{plan_of, last_asked};
+ghost use Rattle.resend_plan.specs.Plan.{AsksNothing, IsAnswer, asked_numbers, last_asked, numbers_of, plan_of};
+ghost use Rattle.resend_plan.specs.Wire.{NamesEntry};
 
 use crate::item::WireItem;
 use gate_io::NoMemory;
@@ -24,7 +25,13 @@ pub fn plan(
 ) -> Result<Vec<WireItem>, NoMemory>
     requires from_one { 1 ≤ series }
     requires of_log { series ≤ length log.now.series }
-    ensures { IfOk result (λ items. items.items ≡ plan_of (series_at log.now.series series) series begin last at) }
+    ensures items { IfOk result (λ items. items.items ≡ plan_of (series_at log.now.series series) series begin last at) }
+    // `wire_body` takes each item.
+    ensures named { IfOk result (λ items. All (NamesEntry log.now.series) items.items) }
+    ensures answers { IfOk result (λ items. All (IsAnswer log.now.series series at) items.items) }
+    // Each number that is asked for is in one item.
+    ensures numbers { IfOk result (λ items. flat_map numbers_of items.items ≡ asked_numbers (length (series_at log.now.series series)) begin last) }
+    ensures none { IfOk result (λ items. (items.items ≡ []) ↔ AsksNothing (length (series_at log.now.series series)) begin last) }
 {
     plan_in::<Brand>(alloc, log, series, begin, last, at, Blank::new(1))
 }

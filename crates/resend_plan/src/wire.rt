@@ -1,18 +1,18 @@
 //! The body of a message as it is written. FIX 4.4, volume 1, "Message format", on the order of the
 //! first fields; volume 2, "Standard header".
 
-ghost use Rattle.std.specs.Prelude.{◌≡◌, ◌<◌, ◌++◌, ◌∷◌, [], IfOk, OnOk, Some, IsSome, codes, decimal};
-ghost use Rattle.message_log.specs.Series.{entry_at};
-ghost use Rattle.resend_plan.specs.Wire.{NamesEntry, body_of, type_field, behind_type, sending, stamp, opening, message, field};
+ghost use Rattle.std.specs.Prelude.{◌≡◌, ◌≤◌, ◌++◌, ◌∷◌, [], length, IfOk, OnOk, Some, codes, decimal};
+ghost use Rattle.fix_frame.specs.Frame.{IsBody, frame_of};
+ghost use Rattle.resend_plan.specs.Fit.{AreShort, HasFitBodies, HasFrameBody, HasNumbersInRange, longest_text};
+ghost use Rattle.resend_plan.specs.Wire.{NamesEntry, body_of, type_field, behind_type, times, stamp, header, message, field_text};
 
 use crate::item::{Names2, WireItem};
 use fix_fields::stamp_text;
+use fix_frame::LONGEST_FRAME;
 use gate_io::{LAST_MOMENT, NoMemory};
 use itoa::Buffer;
-use message_log::{OutEntry, OutLog, Steps};
+use message_log::{OutEntry, OutLog};
 use std::alloc::Global;
-use std::marker::Brand;
-use std::sync::ledger::{Blank, Ledger};
 
 const SOH: u8 = 1;
 
@@ -28,47 +28,37 @@ pub fn wire_body(
     names: &Names2,
 ) -> Result<Vec<u8>, NoMemory>
     requires { NamesEntry log.now.series item.now }
-    ensures { IfOk result (λ body. body.items ≡ body_of names.now log.now.series item.now) }
+    ensures text { IfOk result (λ body. body.items ≡ body_of names.now log.now.series item.now) }
+    ensures is_body { HasFrameBody log.now.series item.now → IfOk result (λ body. IsBody body.items) }
+    ensures length { IfOk result (λ body. length body.items ≤ longest_text names.now log.now.series item.now) }
+    // Within the limits of names and logged bodies, `write_frame` takes it and doesn't find it too long.
+    ensures frame { AreShort names.now → HasFitBodies log.now.series
+        → IfOk result (λ body. IsBody body.items × (length (frame_of body.items) ≤ LONGEST_FRAME)) }
 {
-    wire_body_in::<Brand>(alloc, item, log, names, Blank::new(1))
+    item_body(alloc, item, log, names)
 }
 
-fn wire_body_in<L: Ledger>(
+fn item_body(
     alloc: Global,
     item: &WireItem,
     log: &OutLog,
     names: &Names2,
-    blank: Blank,
 ) -> Result<Vec<u8>, NoMemory>
-    requires entry { NamesEntry log.now.series item.now }
-    requires name { blank.name ≡ L.name }
-    requires parts { blank.parts ≡ L.parts }
-    requires some { 0 < blank.parts }
-    ensures { IfOk result (λ body. body.items ≡ body_of names.now log.now.series item.now) }
+    requires { NamesEntry log.now.series item.now }
+    ensures text { IfOk result (λ body. body.items ≡ body_of names.now log.now.series item.now) }
+    ensures in_range { HasNumbersInRange item.now }
 {
     match *item {
         WireItem::New { series, number } => {
-            let entry = entry_in::<L>(log, series, number, blank);
+            let entry = log.entry(series, number).unwrap();
             entry_body(alloc, names, entry, number, entry.at, None)
         }
         WireItem::Again { series, number, at } => {
-            let entry = entry_in::<L>(log, series, number, blank);
+            let entry = log.entry(series, number).unwrap();
             entry_body(alloc, names, entry, number, at, Some(entry.at))
         }
         WireItem::GapFill { number, to, at, .. } => gap_fill(alloc, names, number, to, at),
     }
-}
-
-/// The entry with a number, which there is.
-fn entry_in<L: Ledger>(log: &OutLog, series: u32, number: u64, blank: Blank) -> &OutEntry
-    requires name { blank.name ≡ L.name }
-    requires parts { blank.parts ≡ L.parts }
-    requires some { 0 < blank.parts }
-    requires entry { IsSome (entry_at log.now.series series number) }
-    ensures { entry_at log.now.series series number ≡ Some result.now }
-{
-    let mut steps = Steps::<L>::new(blank);
-    log.get(series, number, &mut steps).unwrap()
 }
 
 fn entry_body(
@@ -80,7 +70,7 @@ fn entry_body(
     original: Option<u64>,
 ) -> Result<Vec<u8>, NoMemory>
     ensures { IfOk result (λ body. body.items ≡ message names.now (type_field entry.now.body) number
-        (sending at original) (behind_type entry.now.body)) }
+        (times at original) (behind_type entry.now.body)) }
 {
     let (kind, rest) = split_type(entry.body.as_slice());
     let mut body = header(alloc, names, kind, number)?;
@@ -97,8 +87,8 @@ fn gap_fill(
     to: u64,
     at: u64,
 ) -> Result<Vec<u8>, NoMemory>
-    ensures { IfOk result (λ body. body.items ≡ message names.now (field (codes "35=") (codes "4")) number
-        (sending at (Some at)) (field (codes "123=") (codes "Y") ++ field (codes "36=") (decimal to))) }
+    ensures { IfOk result (λ body. body.items ≡ message names.now (field_text (codes "35=") (codes "4")) number
+        (times at (Some at)) (field_text (codes "123=") (codes "Y") ++ field_text (codes "36=") (decimal to))) }
 {
     let mut digits = Buffer::new();
     let mut body = header(alloc, names, b"35=4\x01", number)?;
@@ -109,9 +99,9 @@ fn gap_fill(
 }
 
 /// The type field, and the fields up to the number.
-#[tactic(auto, unfolding(crate::specs::Wire::opening))]
+#[tactic(auto, unfolding(crate::specs::Wire::header))]
 fn header(alloc: Global, names: &Names2, kind: &[u8], number: u64) -> Result<Vec<u8>, NoMemory>
-    ensures { IfOk result (λ body. body.items ≡ opening names.now kind.now number) }
+    ensures { IfOk result (λ body. body.items ≡ header names.now kind.now number) }
 {
     let mut digits = Buffer::new();
     let mut body = Vec::with_capacity(alloc, ROOM)?;
@@ -123,9 +113,9 @@ fn header(alloc: Global, names: &Names2, kind: &[u8], number: u64) -> Result<Vec
 }
 
 /// The moment of sending, and for what is sent again the mark of that and the first one.
-#[tactic(auto, unfolding(crate::specs::Wire::sending))]
+#[tactic(auto, unfolding(crate::specs::Wire::times))]
 fn push_times(body: &mut Vec<u8>, at: u64, original: Option<u64>) -> Result<(), NoMemory>
-    ensures { OnOk result (body.new.items ≡ body.old.items ++ sending at original) }
+    ensures { OnOk result (body.new.items ≡ body.old.items ++ times at original) }
 {
     match original {
         None => push_stamp(body, b"52=", at),
@@ -139,13 +129,13 @@ fn push_times(body: &mut Vec<u8>, at: u64, original: Option<u64>) -> Result<(), 
 
 #[tactic(auto, unfolding(crate::specs::Wire::stamp))]
 fn push_stamp(body: &mut Vec<u8>, tag: &[u8], at: u64) -> Result<(), NoMemory>
-    ensures { OnOk result (body.new.items ≡ body.old.items ++ field tag.now (stamp at)) }
+    ensures { OnOk result (body.new.items ≡ body.old.items ++ field_text tag.now (stamp at)) }
 {
     push_field(body, tag, &stamp_text(at.min(LAST_MOMENT)))
 }
 
 fn push_field(body: &mut Vec<u8>, tag: &[u8], value: &[u8]) -> Result<(), NoMemory>
-    ensures { OnOk result (body.new.items ≡ body.old.items ++ field tag.now value.now) }
+    ensures { OnOk result (body.new.items ≡ body.old.items ++ field_text tag.now value.now) }
 {
     body.extend_from_slice(tag)?;
     body.extend_from_slice(value)?;

@@ -2,7 +2,7 @@
 use Rattle.std.proofs.Common.{◌-◌, ◌++◌, ◌∷◌, [], get_or, length, sym, ◌∙◌, ap, subst, refl, arith}
 use Rattle.std.proofs.lemmas.Bool.{true≢false}
 use Rattle.message_log.specs.declared.entry.OutEntry.{OutEntry}
-use Rattle.message_log.specs.Series.{Numbered, series_at, IsNoSeries}
+use Rattle.message_log.specs.Series.{SeriesLog, series_at, IsNoSeries}
 use Rattle.message_log.proofs.LogParts.{in_bounds, series_size, is_series, no_series_here, not_none}
 use Rattle.message_log.proofs.out_log.OutLog.length_in.Goals as goal
 
@@ -12,7 +12,7 @@ returns-in_err-start-clause-none g c =
     let parts = c.self.invariant in
     let none = c.in_err-start.ensures.none.0 refl in
     rw c.from_residual.ensures (
-      λ _. subst (λ (l : Numbered OutEntry). IsNoSeries l.series c.args.series) c.self.view_is (no_series_here inside.entries.items inside.starts.items inside.start inside.stretches.closed.items inside.stretches.growing parts c.args.series none),
+      λ _. subst (λ (l : SeriesLog OutEntry). IsNoSeries l.series c.args.series) c.self.view_is (no_series_here inside.entries.items inside.starts.items inside.start inside.stretches.closed.items inside.stretches.growing parts c.args.series none),
       λ _. refl,
     )
 
@@ -31,7 +31,7 @@ returns-clause-length g c =
     let there = is_series inside.entries.items inside.starts.items inside.start inside.stretches.closed.items inside.stretches.growing parts c.args.series (λ none. true≢false (c.in_ok-start.ensures.none.1 none)) in
     let ends = c.in_ok-start.ensures.end ∙ ap (λ n. get_or (inside.starts.items ++ n ∷ []) (c.args.series - 1) 0) c.len.ensures.length in
     let size = series_size inside.entries.items inside.starts.items inside.start inside.stretches.closed.items inside.stretches.growing parts c.args.series c.in_ok-start.start c.in_ok-start.end there.0 there.1 c.in_ok-start.ensures.start ends in
-    sym size ∙ ap (λ (l : Numbered OutEntry). length (series_at l.series c.args.series)) c.self.view_is
+    sym size ∙ ap (λ (l : SeriesLog OutEntry). length (series_at l.series c.args.series)) c.self.view_is
 
 pub returns-clause-few : goal.returns-clause-few
 returns-clause-few g c =
@@ -48,5 +48,5 @@ returns-clause-none g c =
     let parts = c.self.invariant in
     let there = is_series inside.entries.items inside.starts.items inside.start inside.stretches.closed.items inside.stretches.growing parts c.args.series (λ none. true≢false (c.in_ok-start.ensures.none.1 none)) in (
       λ e. absurd (true≢false e),
-      λ none. absurd (not_none inside.entries.items inside.starts.items inside.start inside.stretches.closed.items inside.stretches.growing parts c.args.series there (subst (λ (l : Numbered OutEntry). IsNoSeries l.series c.args.series) (sym c.self.view_is) none)),
+      λ none. absurd (not_none inside.entries.items inside.starts.items inside.start inside.stretches.closed.items inside.stretches.growing parts c.args.series there (subst (λ (l : SeriesLog OutEntry). IsNoSeries l.series c.args.series) (sym c.self.view_is) none)),
     )

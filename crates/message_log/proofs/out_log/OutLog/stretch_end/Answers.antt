@@ -2,7 +2,7 @@
 use Rattle.std.proofs.Common.{◌≡◌, ◌-◌, ◌<◌, ◌≤◌, length, sym, ◌∙◌, ap, subst, refl, arith, List, Some, false}
 use Rattle.std.proofs.lemmas.Bool.{true≢false}
 use Rattle.message_log.specs.declared.entry.OutEntry.{OutEntry}
-use Rattle.message_log.specs.Series.{Numbered, series_at, cut}
+use Rattle.message_log.specs.Series.{SeriesLog, series_at, series_from}
 use Rattle.message_log.specs.Stretches.{IsStretchEnd, is_session}
 use Rattle.message_log.proofs.LogParts.{start_inside, present_size}
 use Rattle.message_log.proofs.Sessions.{session-past}
@@ -18,8 +18,8 @@ overflow_sub-last g c =
 pub returns-then-number-last-clause-none : goal.returns-then-number-last-clause-none
 returns-then-number-last-clause-none g c =
     let inside = c.self.inside in
-    let series = ap (λ (l : Numbered OutEntry). l.series) c.self.view_is in
-    let log = cut 0 inside.starts.items inside.entries.items in
+    let series = ap (λ (l : SeriesLog OutEntry). l.series) c.self.view_is in
+    let log = series_from 0 inside.starts.items inside.entries.items in
     let last = present_size inside.entries.items inside.starts.items inside.start inside.stretches.closed.items inside.stretches.growing c.self.invariant in
     let over = c.grows_over.ensures.0 c.if-grows_over.true in
     let of_present : c.args.series ≡ length log = over.0 ∙ c.series.ensures.present ∙ sym (ap (λ (l : List (List OutEntry)). length l) series) in
@@ -30,8 +30,8 @@ returns-then-number-last-clause-none g c =
 pub returns-then-grows_over-clause-end : goal.returns-then-grows_over-clause-end
 returns-then-grows_over-clause-end g c =
     let inside = c.self.inside in
-    let series = ap (λ (l : Numbered OutEntry). l.series) c.self.view_is in
-    let log = cut 0 inside.starts.items inside.entries.items in
+    let series = ap (λ (l : SeriesLog OutEntry). l.series) c.self.view_is in
+    let log = series_from 0 inside.starts.items inside.entries.items in
     let last = present_size inside.entries.items inside.starts.items inside.start inside.stretches.closed.items inside.stretches.growing c.self.invariant in
     let over = c.grows_over.ensures.0 c.if-grows_over.true in
     let of_present : c.args.series ≡ length log = over.0 ∙ c.series.ensures.present ∙ sym (ap (λ (l : List (List OutEntry)). length l) series) in

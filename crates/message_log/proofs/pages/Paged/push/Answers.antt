@@ -2,7 +2,7 @@
 use Rattle.std.proofs.Common.{◌≡◌, refl, ◌∙◌, ap, ◌++◌, ◌∷◌, []}
 use Rattle.std.proofs.lemmas.Result.{IfOk-at_ok}
 use Rattle.message_log.specs.Stored.{Stored}
-use Rattle.message_log.specs.Pages.{joined}
+use Rattle.message_log.specs.Pages.{items_on}
 use Rattle.message_log.proofs.PageLists.{pushed, turned}
 use Rattle.message_log.proofs.pages.Paged.push.Goals as goal
 use Rattle.message_log.proofs.pages.Paged.push.Goals.{then-len-eq-PAGE+in_ok-page, else-len-eq-PAGE}
@@ -11,7 +11,7 @@ pub returns-clause-ok : goal.returns-clause-ok
 returns-clause-ok g c =
     let now = c.if-len-eq-PAGE.self-inside in
     let before = c.self.inside in
-    let same : joined now.full.items ++ now.last.items ≡ joined before.full.items ++ before.last.items =
+    let same : items_on now.full.items ++ now.last.items ≡ items_on before.full.items ++ before.last.items =
     elim c.if-len-eq-PAGE.branch [
       | then-len-eq-PAGE+in_ok-page w ↦
           let behind : w.push.new.self.items ≡ before.full.items ++ before.last ∷ [] = rw (IfOk-at_ok _ w.unwrap.ensures w.push.ensures.ok, w.next_page.ensures.full, w.replace-full.ensures.value) refl in

@@ -1,0 +1,8 @@
+-- What holds of a list holds of the vector that a call gives for it.
+use Rattle.std.proofs.Common.{◌≡◌, List, IfOk, sym, subst}
+use Rattle.std.specs.Prelude.{Vec, Result}
+use Rattle.std.specs.Global.{Global}
+use Rattle.std.proofs.lemmas.Result.{IfOk-weaker}
+
+pub of_list : {X E : Type 0} (whole : List X) (P : List X → Type 0) (r : Result (Vec X Global) E) → IfOk r (λ v. v.items ≡ whole) → P whole → IfOk r (λ v. P v.items)
+of_list whole P r is holds = IfOk-weaker r (λ v. v.items ≡ whole) (λ v. P v.items) (λ v same. subst P (sym same) holds) is
