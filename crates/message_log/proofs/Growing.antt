@@ -1,5 +1,5 @@
 -- What stays of a log as it grows.
-use Rattle.std.proofs.Common.{◌≡◌, ◌≢◌, ◌⊎◌, ℕ, ◌+◌, ◌-◌, ◌<◌, ◌≤◌, List, [], ◌∷◌, ◌++◌, length, take, Option, Some, None, IsSome, is_some, true, refl, sym, ap, subst, ◌∙◌, inl, inr, arith, append_assoc}
+use Rattle.std.proofs.Common.{◌≡◌, ◌≢◌, ◌⊎◌, ℕ, ◌+◌, ◌-◌, ◌<◌, ◌≤◌, List, [], ◌∷◌, ◌++◌, length, take, Option, Some, None, IsSome, is_some, refl, sym, ap, subst, ◌∙◌, inl, inr, arith, append_assoc}
 use Rattle.std.specs.List.{slice_get}
 use Rattle.std.proofs.lemmas.Bool.{cases_lt, cases_eq, false≢true}
 use Rattle.std.proofs.lemmas.List.{append-nil, take-append-le, take_all, length_push}
@@ -7,7 +7,7 @@ use Rattle.message_log.specs.declared.entry.OutEntry.{OutEntry}
 use Rattle.message_log.specs.Series.{series_at, entry_in, entry_at, with_entry}
 use Rattle.message_log.specs.Growth.{Gain, an_entry, a_series, with_gain, log_after, GoesOn}
 use Rattle.message_log.proofs.Places.{slice_get-append_left, slice_get-append_right}
-use Rattle.message_log.proofs.SeriesLists.{length-with_entry, series_is, no_series, present_with_entry, other_with_entry, other_turned, present_turned}
+use Rattle.message_log.proofs.SeriesLists.{length-with_entry, no_series, present_with_entry, other_with_entry, other_turned, present_turned}
 use Rattle.message_log.proofs.Entries.{entry_in_is, none_at_zero, none_past_end, none_in_nothing}
 
 abbrev Log : Type 0
@@ -36,8 +36,8 @@ begins_gained (first ∷ log) (an_entry entry) k =
       | inl present ↦ (
         entry ∷ [],
         ap (λ j. series_at (with_entry (first ∷ log) entry) j) present
-        ∙ present_with_entry (first ∷ log) entry (omega arith)
-        ∙ ap (λ j. series_at (first ∷ log) j ++ entry ∷ []) (sym present),
+            ∙ present_with_entry (first ∷ log) entry (omega arith)
+            ∙ ap (λ j. series_at (first ∷ log) j ++ entry ∷ []) (sym present),
       )
       | inr other ↦ begins_same (series_at (with_entry (first ∷ log) entry) k) (series_at (first ∷ log) k) (other_with_entry (first ∷ log) entry k (omega arith) other)
     ]

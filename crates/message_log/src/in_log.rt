@@ -72,10 +72,10 @@ impl InLog {
         ensures body { option_copied result ≡ slice_get self.now.items pos }
         ensures none { IsNone result ↔ (length self.now.items ≤ pos) }
     {
-        self.body_in::<Brand>(pos, Blank::new(1))
+        self.get_in::<Brand>(pos, Blank::new(1))
     }
 
-    fn body_in<L: Ledger>(&self, pos: u64, blank: Blank) -> Option<&[u8]>
+    fn get_in<L: Ledger>(&self, pos: u64, blank: Blank) -> Option<&[u8]>
         requires name { blank.name ≡ L.name }
         requires parts { blank.parts ≡ L.parts }
         requires some { 0 < blank.parts }

@@ -155,10 +155,10 @@ impl OutLog {
         ensures entry { option_copied result ≡ entry_at self.now.series series number }
         ensures none { IsNone result ↔ HasNoNumber self.now.series series number }
     {
-        self.entry_in::<Brand>(series, number, Blank::new(1))
+        self.get_in::<Brand>(series, number, Blank::new(1))
     }
 
-    fn entry_in<L: Ledger>(&self, series: u32, number: u64, blank: Blank) -> Option<&OutEntry>
+    fn get_in<L: Ledger>(&self, series: u32, number: u64, blank: Blank) -> Option<&OutEntry>
         requires name { blank.name ≡ L.name }
         requires parts { blank.parts ≡ L.parts }
         requires some { 0 < blank.parts }

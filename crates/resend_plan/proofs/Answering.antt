@@ -1,13 +1,12 @@
 -- What the items of a plan stand for.
-use Rattle.std.proofs.Common.{◌≡◌, ◌↔◌, ◌⊎◌, ℕ, zero, suc, ◌+◌, ◌-◌, ◌<◌, ◌≤◌, ◌||◌, ◌==◌, nat_lt, Bool, true, false, cond, List, [], ◌∷◌, ◌++◌, length, take, drop, Option, Some, IsSome, is_some, refl, sym, ap, subst, ◌∙◌, inl, inr, arith, length-take, length-drop}
+use Rattle.std.proofs.Common.{◌≡◌, ◌↔◌, ℕ, zero, suc, ◌+◌, ◌-◌, ◌<◌, ◌≤◌, ◌==◌, nat_lt, Bool, true, false, cond, List, [], ◌∷◌, ◌++◌, length, drop, Option, Some, IsSome, is_some, refl, sym, ap, subst, ◌∙◌, inl, inr, arith, length-take, length-drop}
 use Rattle.std.specs.List.{All, flat_map, range_with_len, slice_get, slice_range}
 use Rattle.std.specs.Option.{option_map_or}
-use Rattle.std.proofs.lemmas.Bool.{cases_lt, cases_eq, cases_Bool, eqb-false, eq-eqb, ne_eqb, lt-ltb, le-ltb, ltb-false, cond-true, cond_both, or_left, or_right, or_from, or_parts}
+use Rattle.std.proofs.lemmas.Bool.{cases_lt, cases_eq, eqb-false, eq-eqb, ne_eqb, lt-ltb, le-ltb, ltb-false, cond-true, cond_both, or_left, or_right, or_from, or_parts}
 use Rattle.std.proofs.lemmas.List.FromFn.{length-range_with_len}
 use Rattle.std.proofs.lemmas.List.Elements.{All-nil, All-cons, All-weaker}
 use Rattle.message_log.specs.declared.entry.OutEntry.{OutEntry}
 use Rattle.message_log.specs.Series.{series_at, entry_at, entry_in}
-use Rattle.message_log.specs.Stretches.{is_session}
 use Rattle.message_log.proofs.Places.{slice_get-take, slice_get-drop}
 use Rattle.message_log.proofs.Entries.{entry_in_is}
 use Rattle.resend_plan.specs.declared.item.WireItem.{WireItem}
@@ -22,9 +21,9 @@ module _ (series at : ℕ) where
   run before n entries = cond before (range_with_len n (leading_sessions entries)) []
 
   first : (before admin : Bool) (n : ℕ) (entries : List OutEntry)
-    → run admin (n + 1) entries ++ flat_map numbers_of (items_from series at admin (n + 1) entries) ≡ range_with_len (n + 1) (length entries)
-    → cond before (range_with_len n (cond admin (1 + leading_sessions entries) 0)) []
-        ++ flat_map numbers_of (cond admin (cond before [] (GapFill series n (n + 1 + leading_sessions entries) at ∷ [])) (Again series n at ∷ []) ++ items_from series at admin (n + 1) entries)
+      → run admin (n + 1) entries ++ flat_map numbers_of (items_from series at admin (n + 1) entries) ≡ range_with_len (n + 1) (length entries)
+      → cond before (range_with_len n (cond admin (1 + leading_sessions entries) 0)) []
+      ++ flat_map numbers_of (cond admin (cond before [] (GapFill series n (n + 1 + leading_sessions entries) at ∷ [])) (Again series n at ∷ []) ++ items_from series at admin (n + 1) entries)
       ≡ n ∷ range_with_len (n + 1) (length entries)
   first false false n entries rest = ap (λ ns. n ∷ ns) rest
   first true false n entries rest = ap (λ ns. n ∷ ns) rest
@@ -65,7 +64,7 @@ plan_numbers entries series begin last at =
     let end = last_asked (length entries) last in
     let range = slice_range entries (begin - 1) end in
     numbers_at (is_empty_range (length entries) begin last) (items_from series at false begin range) (range_with_len begin (end + 1 - begin)) (λ asked.
-      numbers_from series at false begin range ∙ ap (λ n. range_with_len begin n) (size_asked (length entries) begin last asked entries refl))
+    numbers_from series at false begin range ∙ ap (λ n. range_with_len begin n) (size_asked (length entries) begin last asked entries refl))
 
 pub nothing_asked : (count begin last : ℕ) → AsksNothing count begin last → is_empty_range count begin last ≡ true
 nothing_asked count begin last none = elim none [
@@ -112,7 +111,7 @@ in_run [] i h = absurd (omega arith)
 in_run (entry ∷ rest) i h = at_head entry.admin refl (λ j less. in_run rest j less) i h
   where
     at_head : (admin : Bool) → entry.admin ≡ admin → ((j : ℕ) → j < leading_sessions rest → session (slice_get rest j) ≡ true)
-      → (j : ℕ) → j < cond admin (1 + leading_sessions rest) 0 → session (slice_get (entry ∷ rest) j) ≡ true
+        → (j : ℕ) → j < cond admin (1 + leading_sessions rest) 0 → session (slice_get (entry ∷ rest) j) ≡ true
     at_head false is behind j less = absurd (omega arith)
     at_head true is behind zero less = is
     at_head true is behind (suc j) less = behind j (omega arith)
@@ -145,17 +144,17 @@ module _ (log : List (List OutEntry)) (series at : ℕ) where
     refl,
     omega arith,
     λ m from to.
-      let size = ap (λ b. cond b (1 + leading_sessions rest) 0) is in
-      let within = leading_within (entry ∷ rest) in
-      let number : m ≡ n + (m - n) = omega arith in
-      ap (λ k. session (entry_in (series_at log series) k)) number
-      ∙ ap session (sym (stand (m - n) (omega arith)))
-      ∙ in_run (entry ∷ rest) (m - n) (omega arith),
+        let size = ap (λ b. cond b (1 + leading_sessions rest) 0) is in
+        let within = leading_within (entry ∷ rest) in
+        let number : m ≡ n + (m - n) = omega arith in
+        ap (λ k. session (entry_in (series_at log series) k)) number
+        ∙ ap session (sym (stand (m - n) (omega arith)))
+        ∙ in_run (entry ∷ rest) (m - n) (omega arith),
   )
 
   answers_first : (before admin : Bool) (n : ℕ) (entry : OutEntry) (rest : List OutEntry) → entry.admin ≡ admin → StandAt (series_at log series) n (entry ∷ rest)
-    → Answers (items_from series at admin (n + 1) rest)
-    → Answers (cond admin (cond before [] (GapFill series n (n + 1 + leading_sessions rest) at ∷ [])) (Again series n at ∷ []) ++ items_from series at admin (n + 1) rest)
+      → Answers (items_from series at admin (n + 1) rest)
+      → Answers (cond admin (cond before [] (GapFill series n (n + 1 + leading_sessions rest) at ∷ [])) (Again series n at ∷ []) ++ items_from series at admin (n + 1) rest)
   answers_first false false n entry rest is stand more = All-cons (IsAnswer log series at) (Again series n at) (items_from series at false (n + 1) rest) (first_again n entry rest stand is) more
   answers_first true false n entry rest is stand more = All-cons (IsAnswer log series at) (Again series n at) (items_from series at false (n + 1) rest) (first_again n entry rest stand is) more
   answers_first false true n entry rest is stand more = All-cons (IsAnswer log series at) (GapFill series n (n + 1 + leading_sessions rest) at) (items_from series at true (n + 1) rest) (first_filled n entry rest stand is) more

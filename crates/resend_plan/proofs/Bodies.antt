@@ -3,9 +3,8 @@ use Rattle.std.proofs.Common.{◌≡◌, ℕ, List, codes, decimal, ◌++◌, Op
 use Rattle.message_log.specs.declared.entry.OutEntry.{OutEntry}
 use Rattle.message_log.specs.Series.{entry_at}
 use Rattle.resend_plan.specs.declared.item.Names2.{Names2}
-use Rattle.resend_plan.specs.declared.item.WireItem.{WireItem}
 use Rattle.resend_plan.specs.declared.item.WireItem.TheVariants.{New, Again, GapFill}
-use Rattle.resend_plan.specs.Wire.{body_of, message, type_field, behind_type, times, field_text, no_entry}
+use Rattle.resend_plan.specs.Wire.{body_of, message, type_field, behind_type, times, field_of, reset_type, no_entry}
 
 module _ (names : Names2) (log : List (List OutEntry)) (series number : ℕ) where
   pub new_body : (entry : OutEntry) → entry_at log series number ≡ Some entry → body_of names log (New series number) ≡ message names (type_field entry.body) number (times entry.at None) (behind_type entry.body)
@@ -16,6 +15,6 @@ module _ (names : Names2) (log : List (List OutEntry)) (series number : ℕ) whe
   unfolding body_of
   again_body at entry is = ap (λ (o : Option OutEntry). let e = unwrap_or o no_entry in message names (type_field e.body) number (times at (Some e.at)) (behind_type e.body)) is
 
-  pub fill_body : (to at : ℕ) → body_of names log (GapFill series number to at) ≡ message names (field_text (codes "35=") (codes "4")) number (times at (Some at)) (field_text (codes "123=") (codes "Y") ++ field_text (codes "36=") (decimal to))
+  pub fill_body : (to at : ℕ) → body_of names log (GapFill series number to at) ≡ message names reset_type number (times at (Some at)) (field_of 123 (codes "Y") ++ field_of 36 (decimal to))
   unfolding body_of
   fill_body to at = refl

@@ -1,10 +1,10 @@
 -- Items and their texts as the log grows.
-use Rattle.std.proofs.Common.{◌≡◌, ◌⊎◌, ℕ, List, [], ◌∷◌, ◌++◌, map, Option, Some, None, IsSome, is_some, refl, sym, ap, subst, ◌∙◌, inl, inr, unwrap_or}
+use Rattle.std.proofs.Common.{◌≡◌, ◌⊎◌, ℕ, List, [], ◌∷◌, map, Option, Some, None, IsSome, is_some, refl, sym, ap, subst, ◌∙◌, inl, inr, unwrap_or}
 use Rattle.std.specs.List.{All}
 use Rattle.std.proofs.lemmas.Bool.{false≢true}
 use Rattle.std.proofs.lemmas.List.Elements.{All-head, All-tail, All-weaker}
 use Rattle.message_log.specs.declared.entry.OutEntry.{OutEntry}
-use Rattle.message_log.specs.Series.{entry_at, with_entry}
+use Rattle.message_log.specs.Series.{entry_at}
 use Rattle.resend_plan.specs.declared.item.Names2.{Names2}
 use Rattle.resend_plan.specs.declared.item.WireItem.{WireItem}
 use Rattle.resend_plan.specs.declared.item.WireItem.TheVariants.{New, Again, GapFill}
@@ -43,8 +43,8 @@ fit_first log none = λ series number named. absurd (false≢true (sym (ap (λ (
 
 -- each entry of the later log is one of the earlier, or the pushed one
 pub fit_pushed : (earlier later : List (List OutEntry)) (entry : OutEntry)
-  → ((series number : ℕ) → IsSome (entry_at later series number) → (entry_at later series number ≡ entry_at earlier series number) ⊎ (entry_at later series number ≡ Some entry))
-  → HasFitBodies earlier → IsFit entry.body → HasFitBodies later
+    → ((series number : ℕ) → IsSome (entry_at later series number) → (entry_at later series number ≡ entry_at earlier series number) ⊎ (entry_at later series number ≡ Some entry))
+    → HasFitBodies earlier → IsFit entry.body → HasFitBodies later
 fit_pushed earlier later entry pushed fit is = λ series number named. elim (pushed series number named) [
   | inl old ↦ subst (λ (o : Option OutEntry). IsFit (unwrap_or o no_entry).body) (sym old) (fit series number (subst (λ (o : Option OutEntry). IsSome o) old named))
   | inr new ↦ subst (λ (o : Option OutEntry). IsFit (unwrap_or o no_entry).body) (sym new) is

@@ -1,16 +1,15 @@
 -- The text of an item as the body of a frame, and how long it is.
-use Rattle.std.proofs.Common.{◌≡◌, ◌⊎◌, ℕ, suc, ◌+◌, ◌^◌, ◌<◌, ◌≤◌, ◌==◌, Bool, true, false, cond, List, [], ◌∷◌, ◌++◌, length, codes, decimal, Option, Some, None, IsSome, refl, sym, ap, subst, ◌∙◌, inl, inr, arith, append_assoc, length-append, unwrap_or}
+use Rattle.std.proofs.Common.{◌≡◌, ◌⊎◌, ℕ, suc, ◌+◌, ◌^◌, ◌<◌, ◌≤◌, ◌==◌, Bool, true, false, cond, List, [], ◌∷◌, ◌++◌, length, codes, decimal, Option, Some, None, refl, sym, ap, subst, ◌∙◌, inl, inr, arith, append_assoc, length-append}
 use Rattle.std.proofs.lemmas.Bool.{cond_both, eqb-true}
 use Rattle.std.proofs.lemmas.List.{append-nil}
 use Rattle.std.proofs.lemmas.Fmt.{length-decimal-le}
 use Rattle.fix_frame.specs.Frame.{IsBody, frame_of, three_digits, checksum}
 use Rattle.message_log.specs.declared.entry.OutEntry.{OutEntry}
-use Rattle.message_log.specs.Series.{entry_at}
 use Rattle.resend_plan.specs.declared.item.Names2.{Names2}
 use Rattle.resend_plan.specs.declared.item.WireItem.{WireItem}
 use Rattle.resend_plan.specs.declared.item.WireItem.TheVariants.{New, Again, GapFill}
-use Rattle.resend_plan.specs.Wire.{type_field, behind_type, field_text, stamp, times, header, message, body_of, entry_of, NamesEntry}
-use Rattle.resend_plan.specs.Fit.{HasFrameBody, longest_content, longest_text, HasNumbersInRange, AreShort, IsFit, HasFitBodies}
+use Rattle.resend_plan.specs.Wire.{type_field, behind_type, field_of, reset_type, stamp, times, header, message, body_of, entry_of, NamesEntry}
+use Rattle.resend_plan.specs.Fit.{HasFrameBody, longest_content, longest_text, HasNumbersInRange, AreShort, HasFitBodies}
 
 -- the bytes end with the one that ends a field
 abbrev EndsField : List ℕ → Type 0
@@ -19,8 +18,8 @@ EndsField bytes = (before : List ℕ) × (bytes ≡ before ++ 1 ∷ [])
 ends_behind : (bytes more : List ℕ) → EndsField more → EndsField (bytes ++ more)
 ends_behind bytes more ends = (bytes ++ ends.0, ap (λ ts. bytes ++ ts) ends.1 ∙ sym (append_assoc bytes ends.0 (1 ∷ [])))
 
-ends_field : (tag value : List ℕ) → EndsField (field_text tag value)
-ends_field tag value = (tag ++ value, sym (append_assoc tag value (1 ∷ [])))
+ends_field : (tag : ℕ) (value : List ℕ) → EndsField (field_of tag value)
+ends_field tag value = (decimal tag ++ (61 ∷ value), refl)
 
 -- the first field of bytes that end a field, and what lies behind it
 ends_type : (bytes : List ℕ) → EndsField (type_field (bytes ++ 1 ∷ []))
@@ -46,14 +45,14 @@ ends_with_more bytes more ends or_none = elim or_none [
 
 ends_times : (at : ℕ) (original : Option ℕ) → EndsField (times at original)
 unfolding times
-ends_times at None = ends_field (codes "52=") (stamp at)
+ends_times at None = ends_field 52 (stamp at)
 ends_times at (Some original) =
-    ends_behind (field_text (codes "43=") (codes "Y") ++ field_text (codes "52=") (stamp at)) (field_text (codes "122=") (stamp original)) (ends_field (codes "122=") (stamp original))
+    ends_behind (field_of 43 (codes "Y") ++ field_of 52 (stamp at)) (field_of 122 (stamp original)) (ends_field 122 (stamp original))
 
 module _ (names : Names2) (number : ℕ) (at : ℕ) (original : Option ℕ) where
   -- what stands before the times, with this type
   abbrev front : List ℕ → List ℕ
-  front kind = kind ++ field_text (codes "49=") names.us ++ field_text (codes "56=") names.them ++ field_text (codes "34=") (decimal number)
+  front kind = kind ++ field_of 49 names.us ++ field_of 56 names.them ++ field_of 34 (decimal number)
 
   is_body-kind : (kind rest : List ℕ) → EndsOrIsEmpty rest → IsBody (message names (codes "35=" ++ kind) number (times at original) rest)
   unfolding header
@@ -64,18 +63,26 @@ module _ (names : Names2) (number : ℕ) (at : ℕ) (original : Option ℕ) wher
   is_body-entry : (body : List ℕ) → IsBody body → IsBody (message names (type_field body) number (times at original) (behind_type body))
   is_body-entry body is =
       subst (λ (b : List ℕ). IsBody (message names (type_field b) number (times at original) (behind_type b))) (sym is.text) (
-        is_body-kind (type_field (is.middle ++ 1 ∷ [])) (behind_type (is.middle ++ 1 ∷ [])) (ends_behind_type is.middle))
+      is_body-kind (type_field (is.middle ++ 1 ∷ [])) (behind_type (is.middle ++ 1 ∷ [])) (ends_behind_type is.middle))
 
 pub is_body-text : (names : Names2) (log : List (List OutEntry)) (item : WireItem) → HasFrameBody log item → IsBody (body_of names log item)
 unfolding body_of
 is_body-text names log (New series number) is = is_body-entry names number (entry_of log series number).at None (entry_of log series number).body is
 is_body-text names log (Again series number at) is = is_body-entry names number at (Some (entry_of log series number).at) (entry_of log series number).body is
 is_body-text names log (GapFill series number to at) is =
-    is_body-kind names number at (Some at) (codes "4" ++ 1 ∷ []) (field_text (codes "123=") (codes "Y") ++ field_text (codes "36=") (decimal to)) (
-      inr (ends_behind (field_text (codes "123=") (codes "Y")) (field_text (codes "36=") (decimal to)) (ends_field (codes "36=") (decimal to))))
+    is_body-kind names number at (Some at) (codes "4" ++ 1 ∷ []) (field_of 123 (codes "Y") ++ field_of 36 (decimal to)) (
+    inr (ends_behind (field_of 123 (codes "Y")) (field_of 36 (decimal to)) (ends_field 36 (decimal to))))
 
-length-field_text : (tag value : List ℕ) → length (field_text tag value) ≡ length tag + length value + 1
-length-field_text tag value = omega (arith, length-append tag (value ++ 1 ∷ []), length-append value (1 ∷ []))
+-- a field whose tag has so many digits at most
+length-field_of : (width tag : ℕ) (value : List ℕ) → 0 < width → tag < 10 ^ width → tag < 2 ^ 64 → length (field_of tag value) ≤ width + length value + 2
+length-field_of width tag value some short small =
+    omega (arith, length-append (decimal tag ++ (61 ∷ value)) (1 ∷ []), length-append (decimal tag) (61 ∷ value), length-decimal-le width tag some short small)
+
+short_tag : (tag : ℕ) (value : List ℕ) → tag < 100 → length (field_of tag value) ≤ length value + 4
+short_tag tag value short = let most = length-field_of 2 tag value (omega arith) short (omega arith) in omega arith
+
+long_tag : (tag : ℕ) (value : List ℕ) → tag < 1000 → length (field_of tag value) ≤ length value + 5
+long_tag tag value short = let most = length-field_of 3 tag value (omega arith) short (omega arith) in omega arith
 
 length-stamp : (at : ℕ) → length (stamp at) ≡ 21
 unfolding stamp
@@ -86,12 +93,12 @@ length-decimal n h = length-decimal-le 20 n (omega arith) (omega arith) h
 
 length-times : (at : ℕ) (original : Option ℕ) → length (times at original) ≤ 56
 unfolding times
-length-times at None = omega (arith, length-field_text (codes "52=") (stamp at), length-stamp at)
+length-times at None = omega (arith, short_tag 52 (stamp at) (omega arith), length-stamp at)
 length-times at (Some original) =
-    let mark = field_text (codes "43=") (codes "Y") in
-    let sent = field_text (codes "52=") (stamp at) in
-    let first = field_text (codes "122=") (stamp original) in
-    omega (arith, length-append (mark ++ sent) first, length-append mark sent, length-field_text (codes "43=") (codes "Y"), length-field_text (codes "52=") (stamp at), length-field_text (codes "122=") (stamp original), length-stamp at, length-stamp original)
+    let mark = field_of 43 (codes "Y") in
+    let sent = field_of 52 (stamp at) in
+    let first = field_of 122 (stamp original) in
+    omega (arith, length-append (mark ++ sent) first, length-append mark sent, short_tag 43 (codes "Y") (omega arith), short_tag 52 (stamp at) (omega arith), long_tag 122 (stamp original) (omega arith), length-stamp at, length-stamp original)
 
 length-type : (body : List ℕ) → length (type_field body) + length (behind_type body) ≡ length body
 length-type [] = refl
@@ -104,10 +111,10 @@ length-type (b ∷ body) = at_byte (b == 1) (length-type body)
 length-header : (names : Names2) (kind : List ℕ) (number : ℕ) → number < 2 ^ 64 → length (header names kind number) ≤ length kind + length names.us + length names.them + 32
 unfolding header
 length-header names kind number h =
-    let us = field_text (codes "49=") names.us in
-    let them = field_text (codes "56=") names.them in
-    let last = field_text (codes "34=") (decimal number) in
-    omega (arith, length-append (kind ++ us ++ them) last, length-append (kind ++ us) them, length-append kind us, length-field_text (codes "49=") names.us, length-field_text (codes "56=") names.them, length-field_text (codes "34=") (decimal number), length-decimal number h)
+    let us = field_of 49 names.us in
+    let them = field_of 56 names.them in
+    let last = field_of 34 (decimal number) in
+    omega (arith, length-append (kind ++ us ++ them) last, length-append (kind ++ us) them, length-append kind us, short_tag 49 names.us (omega arith), short_tag 56 names.them (omega arith), short_tag 34 (decimal number) (omega arith), length-decimal number h)
 
 length-message : (names : Names2) (kind : List ℕ) (number at : ℕ) (original : Option ℕ) (rest : List ℕ) → number < 2 ^ 64 → length (message names kind number (times at original) rest) ≤ 88 + length names.us + length names.them + (length kind + length rest)
 length-message names kind number at original rest h =
@@ -122,10 +129,9 @@ length-text names log (Again series number at) h =
     let entry = entry_of log series number in
     omega (arith, length-message names (type_field entry.body) number at (Some entry.at) (behind_type entry.body) h, length-type entry.body)
 length-text names log (GapFill series number to at) h =
-    let kind = field_text (codes "35=") (codes "4") in
-    let mark = field_text (codes "123=") (codes "Y") in
-    let next = field_text (codes "36=") (decimal to) in
-    omega (arith, length-message names kind number at (Some at) (mark ++ next) h.0, length-field_text (codes "35=") (codes "4"), length-append mark next, length-field_text (codes "123=") (codes "Y"), length-field_text (codes "36=") (decimal to), length-decimal to h.1)
+    let mark = field_of 123 (codes "Y") in
+    let next = field_of 36 (decimal to) in
+    omega (arith, length-message names reset_type number at (Some at) (mark ++ next) h.0, length-append mark next, long_tag 123 (codes "Y") (omega arith), short_tag 36 (decimal to) (omega arith), length-decimal to h.1)
 
 length-frame : (body : List ℕ) → length body < 10_000 → length (frame_of body) ≤ 65_536
 length-frame body short =

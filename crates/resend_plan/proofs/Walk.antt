@@ -1,5 +1,5 @@
 -- A plan, from item to item.
-use Rattle.std.proofs.Common.{◌≡◌, ℕ, zero, suc, ◌+◌, ◌-◌, ◌<◌, ◌≤◌, ◌||◌, ◌==◌, nat_lt, min, Bool, true, false, cond, List, [], ◌∷◌, ◌++◌, length, get_or, take, drop, refl, sym, ap, ◌∙◌, inl, inr, arith, append_assoc}
+use Rattle.std.proofs.Common.{◌≡◌, ℕ, suc, ◌+◌, ◌-◌, ◌<◌, ◌≤◌, ◌||◌, ◌==◌, nat_lt, min, Bool, true, false, cond, List, [], ◌∷◌, ◌++◌, length, get_or, take, drop, refl, sym, ap, ◌∙◌, inl, inr, arith, append_assoc}
 use Rattle.std.specs.List.{slice_range}
 use Rattle.std.proofs.lemmas.Bool.{cases_lt, eq-eqb, ne_eqb, lt-ltb, le-ltb, ltb-false, cond-true, cond-false, cond_both, or_left, or_right, or_from, or_parts}
 use Rattle.message_log.specs.declared.entry.OutEntry.{OutEntry}
@@ -7,7 +7,7 @@ use Rattle.message_log.specs.Stretches.{is_session, IsStretchEnd}
 use Rattle.message_log.proofs.StretchEnds.{session_at}
 use Rattle.resend_plan.specs.declared.item.WireItem.{WireItem}
 use Rattle.resend_plan.specs.declared.item.WireItem.TheVariants.{Again, GapFill}
-use Rattle.resend_plan.specs.Plan.{leading_sessions, item_of, items_from, last_asked, is_empty_range, plan_of}
+use Rattle.resend_plan.specs.Plan.{leading_sessions, items_from, last_asked, is_empty_range, plan_of}
 use Rattle.resend_plan.specs.Wire.{no_entry}
 use Rattle.resend_plan.proofs.Ranges.{admin_is, range_head, range_tail, leading_behind}
 

@@ -1,5 +1,6 @@
 -- The body of a message as it is written: its type, the rest of the header, and then the rest of its entry.
 use Rattle.std.specs.Prelude.{ℕ, false, ◌==◌, if◌then◌else◌, min, List, [], ◌∷◌, ◌++◌, codes, decimal, Option, Some, None, unwrap_or, IsSome}
+use Rattle.fix_fields.specs.Field.{field_text}
 use Rattle.fix_fields.specs.Stamp.{stamp_of}
 use Rattle.gate_io.specs.declared.clocks.TheConstants.{LAST_MOMENT}
 use Rattle.message_log.specs.declared.entry.OutEntry.{OutEntry}
@@ -18,9 +19,9 @@ abbrev pub behind_type : List ℕ → List ℕ
 behind_type [] = []
 behind_type (b ∷ bytes) = if b == 1 then bytes else behind_type bytes
 
--- a field: its tag and `=`, its value, and SOH
-abbrev pub field_text : List ℕ → List ℕ → List ℕ
-field_text tag value = tag ++ (value ++ 1 ∷ [])
+-- the text of a field with this tag and value
+abbrev pub field_of : ℕ → List ℕ → List ℕ
+field_of tag value = field_text (record { tag = tag; value = value })
 
 -- a moment as a UTCTimestamp: a later one than the last is taken as that one
 unfoldable pub stamp : ℕ → List ℕ
@@ -28,17 +29,21 @@ stamp at = stamp_of (min at LAST_MOMENT)
 
 -- SendingTime (52) alone, or between PossDupFlag (43) and OrigSendingTime (122)
 unfoldable pub times : ℕ → Option ℕ → List ℕ
-times at None = field_text (codes "52=") (stamp at)
-times at (Some original) = field_text (codes "43=") (codes "Y") ++ field_text (codes "52=") (stamp at) ++ field_text (codes "122=") (stamp original)
+times at None = field_of 52 (stamp at)
+times at (Some original) = field_of 43 (codes "Y") ++ field_of 52 (stamp at) ++ field_of 122 (stamp original)
 
 -- type, SenderCompID (49), TargetCompID (56) and MsgSeqNum (34)
 unfoldable pub header : Names2 → List ℕ → ℕ → List ℕ
 header names kind number =
-    kind ++ field_text (codes "49=") names.us ++ field_text (codes "56=") names.them ++ field_text (codes "34=") (decimal number)
+    kind ++ field_of 49 names.us ++ field_of 56 names.them ++ field_of 34 (decimal number)
 
 -- and then the times, and the rest
 abbrev pub message : Names2 → List ℕ → ℕ → List ℕ → List ℕ → List ℕ
 message names kind number times rest = header names kind number ++ times ++ rest
+
+-- the type field of a SequenceReset, `35=4` and SOH
+abbrev pub reset_type : List ℕ
+reset_type = codes "35=4" ++ 1 ∷ []
 
 -- an entry that stands for none
 abbrev pub no_entry : OutEntry
@@ -63,4 +68,4 @@ body_of names log (Again series number at) =
     let entry = entry_of log series number in
     message names (type_field entry.body) number (times at (Some entry.at)) (behind_type entry.body)
 body_of names log (GapFill series number to at) =
-    message names (field_text (codes "35=") (codes "4")) number (times at (Some at)) (field_text (codes "123=") (codes "Y") ++ field_text (codes "36=") (decimal to))
+    message names reset_type number (times at (Some at)) (field_of 123 (codes "Y") ++ field_of 36 (decimal to))

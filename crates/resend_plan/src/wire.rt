@@ -4,10 +4,10 @@
 ghost use Rattle.std.specs.Prelude.{◌≡◌, ◌≤◌, ◌++◌, ◌∷◌, [], length, IfOk, OnOk, Some, codes, decimal};
 ghost use Rattle.fix_frame.specs.Frame.{IsBody, frame_of};
 ghost use Rattle.resend_plan.specs.Fit.{AreShort, HasFitBodies, HasFrameBody, HasNumbersInRange, longest_text};
-ghost use Rattle.resend_plan.specs.Wire.{NamesEntry, body_of, type_field, behind_type, times, stamp, header, message, field_text};
+ghost use Rattle.resend_plan.specs.Wire.{NamesEntry, body_of, type_field, behind_type, times, stamp, header, message, reset_type, field_of};
 
 use crate::item::{Names2, WireItem};
-use fix_fields::stamp_text;
+use fix_fields::{put_field, stamp_text};
 use fix_frame::LONGEST_FRAME;
 use gate_io::{LAST_MOMENT, NoMemory};
 use itoa::Buffer;
@@ -87,14 +87,14 @@ fn gap_fill(
     to: u64,
     at: u64,
 ) -> Result<Vec<u8>, NoMemory>
-    ensures { IfOk result (λ body. body.items ≡ message names.now (field_text (codes "35=") (codes "4")) number
-        (times at (Some at)) (field_text (codes "123=") (codes "Y") ++ field_text (codes "36=") (decimal to))) }
+    ensures { IfOk result (λ body. body.items ≡ message names.now reset_type number
+        (times at (Some at)) (field_of 123 (codes "Y") ++ field_of 36 (decimal to))) }
 {
     let mut digits = Buffer::new();
     let mut body = header(alloc, names, b"35=4\x01", number)?;
     push_times(&mut body, at, Some(at))?;
-    push_field(&mut body, b"123=", b"Y")?;
-    push_field(&mut body, b"36=", digits.format(to).as_bytes())?;
+    put_field(&mut body, 123, b"Y")?;
+    put_field(&mut body, 36, digits.format(to).as_bytes())?;
     Ok(body)
 }
 
@@ -106,9 +106,9 @@ fn header(alloc: Global, names: &Names2, kind: &[u8], number: u64) -> Result<Vec
     let mut digits = Buffer::new();
     let mut body = Vec::with_capacity(alloc, ROOM)?;
     body.extend_from_slice(kind)?;
-    push_field(&mut body, b"49=", names.us.as_slice())?;
-    push_field(&mut body, b"56=", names.them.as_slice())?;
-    push_field(&mut body, b"34=", digits.format(number).as_bytes())?;
+    put_field(&mut body, 49, names.us.as_slice())?;
+    put_field(&mut body, 56, names.them.as_slice())?;
+    put_field(&mut body, 34, digits.format(number).as_bytes())?;
     Ok(body)
 }
 
@@ -118,29 +118,20 @@ fn push_times(body: &mut Vec<u8>, at: u64, original: Option<u64>) -> Result<(), 
     ensures { OnOk result (body.new.items ≡ body.old.items ++ times at original) }
 {
     match original {
-        None => push_stamp(body, b"52=", at),
+        None => push_stamp(body, 52, at),
         Some(original) => {
-            push_field(body, b"43=", b"Y")?;
-            push_stamp(body, b"52=", at)?;
-            push_stamp(body, b"122=", original)
+            put_field(body, 43, b"Y")?;
+            push_stamp(body, 52, at)?;
+            push_stamp(body, 122, original)
         }
     }
 }
 
 #[tactic(auto, unfolding(crate::specs::Wire::stamp))]
-fn push_stamp(body: &mut Vec<u8>, tag: &[u8], at: u64) -> Result<(), NoMemory>
-    ensures { OnOk result (body.new.items ≡ body.old.items ++ field_text tag.now (stamp at)) }
+fn push_stamp(body: &mut Vec<u8>, tag: u32, at: u64) -> Result<(), NoMemory>
+    ensures { OnOk result (body.new.items ≡ body.old.items ++ field_of tag (stamp at)) }
 {
-    push_field(body, tag, &stamp_text(at.min(LAST_MOMENT)))
-}
-
-fn push_field(body: &mut Vec<u8>, tag: &[u8], value: &[u8]) -> Result<(), NoMemory>
-    ensures { OnOk result (body.new.items ≡ body.old.items ++ field_text tag.now value.now) }
-{
-    body.extend_from_slice(tag)?;
-    body.extend_from_slice(value)?;
-    body.push(SOH)?;
-    Ok(())
+    put_field(body, tag, &stamp_text(at.min(LAST_MOMENT)))
 }
 
 /// A body up to the end of its first field, which is its type, and what lies behind.

@@ -1,9 +1,8 @@
 -- what holds of each plan holds of the items
 use Rattle.resend_plan.proofs.Results.{of_list}
 use Rattle.resend_plan.proofs.Answering.{plan_names, plan_answers, plan_numbers, plan_none}
-use Rattle.std.proofs.Common.{◌≡◌, ◌↔◌, ℕ, List, [], length, All, flat_map}
+use Rattle.std.proofs.Common.{◌≡◌, ◌↔◌, [], length, All, flat_map}
 use Rattle.message_log.specs.Series.{series_at}
-use Rattle.resend_plan.specs.declared.item.WireItem.{WireItem}
 use Rattle.resend_plan.specs.Plan.{AsksNothing, IsAnswer, asked_numbers, numbers_of, plan_of}
 use Rattle.resend_plan.specs.Wire.{NamesEntry}
 use Rattle.resend_plan.proofs.planning.plan.Goals as goal

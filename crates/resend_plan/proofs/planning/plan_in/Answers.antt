@@ -1,8 +1,7 @@
 -- each item goes on to the next number that is left
-use Rattle.std.proofs.Common.{◌≡◌, ◌≤◌, ◌<◌, ◌+◌, ◌++◌, ◌∷◌, [], length, min, refl, sym, ◌∙◌, ap, subst, arith, ℕ}
+use Rattle.std.proofs.Common.{◌≡◌, ◌≤◌, ◌+◌, ◌++◌, ◌∷◌, length, refl, sym, ◌∙◌, ap, subst, arith}
 use Rattle.std.proofs.lemmas.Option.{MatchOption-at_some}
 use Rattle.message_log.specs.Series.{series_at}
-use Rattle.resend_plan.specs.declared.item.WireItem.{WireItem}
 use Rattle.resend_plan.specs.declared.item.WireItem.TheVariants.{Again, GapFill}
 use Rattle.resend_plan.proofs.Walk.{rest_of, again, filled, asked_within, joined}
 use Rattle.resend_plan.proofs.planning.plan_in.Goals as goal

@@ -1,4 +1,4 @@
-use Rattle.std.proofs.Common.{◌≡◌, ◌++◌, ◌+◌, ◌-◌, ◌<◌, length}
+use Rattle.std.proofs.Common.{◌≡◌, ◌++◌, ◌+◌, ◌-◌, ◌<◌}
 use Rattle.message_log.specs.Series.{series_at}
 use Rattle.resend_plan.proofs.Walk.{rest_of}
 use Rattle.resend_plan.proofs.planning.plan_in.Given as goal

@@ -42,6 +42,6 @@ returns-clause-named c =
     let series = ap (λ (l : SeriesLog OutEntry). length l.series) c.self.view_is in
     let all = size inside.entries.items inside.starts.items inside.start inside.stretches.closed.items inside.stretches.growing c.self.invariant in
     subst (λ (log : List (List OutEntry)). entry_at log (length log) (c.len-2.result - inside.start + 1) ≡ Some c.args.entry) (sym (returns-clause-ok c)) (
-      ap (λ n. entry_at (with_entry old c.args.entry) (length (with_entry old c.args.entry)) n) (returns-clause-number c)
-      ∙ new_entry old c.args.entry (omega arith)
+    ap (λ n. entry_at (with_entry old c.args.entry) (length (with_entry old c.args.entry)) n) (returns-clause-number c)
+    ∙ new_entry old c.args.entry (omega arith)
     )
