@@ -1,8 +1,8 @@
 -- Items and their texts as the log grows.
-use Rattle.std.proofs.Common.{◌≡◌, ◌⊎◌, ℕ, List, [], ◌∷◌, map, Option, Some, None, IsSome, is_some, refl, sym, ap, subst, ◌∙◌, inl, inr, unwrap_or}
+use Rattle.std.proofs.Common.{◌≡◌, ◌⊎◌, ℕ, List, [], ◌∷◌, ◌++◌, map, Option, Some, None, IsSome, is_some, refl, sym, ap, subst, ◌∙◌, inl, inr, unwrap_or}
 use Rattle.std.specs.List.{All}
 use Rattle.std.proofs.lemmas.Bool.{false≢true}
-use Rattle.std.proofs.lemmas.List.Elements.{All-head, All-tail, All-weaker}
+use Rattle.std.proofs.lemmas.List.Elements.{All-head, All-tail, All-weaker, All-push}
 use Rattle.message_log.specs.declared.entry.OutEntry.{OutEntry}
 use Rattle.message_log.specs.Series.{entry_at}
 use Rattle.resend_plan.specs.declared.item.Names2.{Names2}
@@ -31,6 +31,9 @@ module _ (earlier later : List (List OutEntry)) (stays : (series number : ℕ) �
 
   pub all_named_stay : (items : List WireItem) → All (NamesEntry earlier) items → All (NamesEntry later) items
   all_named_stay items all = All-weaker (NamesEntry earlier) (NamesEntry later) named_stays items all
+
+  pub one_more_named : (items : List WireItem) (item : WireItem) → All (NamesEntry earlier) items → NamesEntry later item → All (NamesEntry later) (items ++ item ∷ [])
+  one_more_named items item all named = All-push (NamesEntry later) items item (all_named_stay items all) named
 
   pub all_texts_stay : (names : Names2) (items : List WireItem) → All (NamesEntry earlier) items → map (body_of names later) items ≡ map (body_of names earlier) items
   all_texts_stay names [] all = refl

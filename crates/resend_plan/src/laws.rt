@@ -23,6 +23,9 @@ pub fn items_stay()
     // The same of a list of items.
     ensures all_named { (earlier later : List (List OutEntry)) (items : List WireItem) → GoesOn earlier later
         → All (NamesEntry earlier) items → All (NamesEntry later) items }
+    // With an item behind them that the later log names.
+    ensures one_more { (earlier later : List (List OutEntry)) (items : List WireItem) (item : WireItem) → GoesOn earlier later
+        → All (NamesEntry earlier) items → NamesEntry later item → All (NamesEntry later) (items ++ item ∷ []) }
     ensures all_texts { (earlier later : List (List OutEntry)) (names : Names2) (items : List WireItem) → GoesOn earlier later
         → All (NamesEntry earlier) items → map (body_of names later) items ≡ map (body_of names earlier) items }
 {
