@@ -10,10 +10,10 @@ use Rattle.lease_core.specs.declared.entry.Holding.{Holding}
 use Rattle.lease_core.specs.declared.lease.Ending.{Ending}
 use Rattle.lease_core.specs.declared.lease.Ending.TheVariants.{Running, GivenBack, TakenBack}
 use Rattle.lease_core.specs.declared.lease.Lease.{Lease}
-use Rattle.lease_core.specs.State.{State, recorded, opening, with_last, last_or, one_sent, ended_as, one_more, ended_at, one_more_send, engine_from, no_lease, last_lease, owner_in, owner_of, lease_of}
+use Rattle.lease_core.specs.State.{State, state_after, opening, with_last, last_or, lease_with_send, lease_with_ending, one_more, holding_with_end, holding_with_send, engine_from, no_lease, last_lease, owner_in, owner_of, lease_of}
 use Rattle.lease_core.specs.declared.event.Event.{Event}
 use Rattle.lease_core.specs.declared.event.Event.TheVariants.{Arrives, AdminSent, Binds, Plans, Leaves, Resets, Requests, Sends, Releases, TimesOut, Holds, Lapses}
-use Rattle.lease_core.specs.Steps.{step, answered, why_owned, why_reserved, why_spent, why_missing, why_refused, CanHappen, IsActive, IsLibrary}
+use Rattle.lease_core.specs.Steps.{step, request_entry, why_owned, why_reserved, why_spent, why_missing, why_refused, CanHappen, IsActive, IsLibrary}
 use Rattle.lease_core.specs.Runs.{IsNext}
 use Rattle.lease_core.specs.Holdings.{AreAdjoining}
 use Rattle.lease_core.specs.Laws.{OnlyLastRuns}
@@ -74,42 +74,42 @@ only_push (k ∷ j ∷ js) d l o ended = (inr (elim o.0 [ inl none ↦ absurd (o
 keeps : (limit : ℕ) (s : State) (series : List ℕ) (reserved : Option (ℕ × ℕ)) (bound : Option ℕ) (latest : Option Entry) → 0 < length series → Lawful limit s → Lawful limit (record { leases = s.leases; holdings = s.holdings; inbound = s.inbound; series = series; reserved = reserved; bound = bound; latest = latest })
 keeps limit s series reserved bound latest some l = record { adjoining = l.adjoining; held = l.held; one_runs = l.one_runs; few = l.few; named = l.named; numbered = some; begun = l.begun }
 
-arrives : (limit : ℕ) (s : State) → Lawful limit s → Lawful limit (recorded s (step limit s Arrives))
+arrives : (limit : ℕ) (s : State) → Lawful limit s → Lawful limit (state_after s (step limit s Arrives))
 arrives limit s l =
-    let last = last_or-with_last (ended_at (s.inbound + 1)) (engine_from 0) s.holdings l.begun in record {
+    let last = last_or-with_last (holding_with_end (s.inbound + 1)) (engine_from 0) s.holdings l.begun in record {
       adjoining = adjoin_grow s.holdings s.inbound (s.inbound + 1) (omega arith) l.adjoining;
       held = record { library = ap (λ h. h.library) last ∙ l.held.library; sends = λ active. ap (λ h. h.sends) last ∙ l.held.sends active };
       one_runs = l.one_runs;
       few = l.few;
       named = l.named;
       numbered = l.numbered;
-      begun = omega (arith, length-with_last (ended_at (s.inbound + 1)) s.holdings, l.begun);
+      begun = omega (arith, length-with_last (holding_with_end (s.inbound + 1)) s.holdings, l.begun);
     }
 
-sends : (limit : ℕ) (s : State) → IsActive s → Lawful limit s → Lawful limit (recorded s (step limit s Sends))
+sends : (limit : ℕ) (s : State) → IsActive s → Lawful limit s → Lawful limit (state_after s (step limit s Sends))
 sends limit s active l =
     let some = some_lease s.leases active in
-    let last = last_or-with_last one_more_send (engine_from 0) s.holdings l.begun in
-    let lease = last_or-with_last one_sent no_lease s.leases some in record {
+    let last = last_or-with_last holding_with_send (engine_from 0) s.holdings l.begun in
+    let lease = last_or-with_last lease_with_send no_lease s.leases some in record {
       adjoining = adjoin_count s.holdings s.inbound l.adjoining;
       held = record { library = ap (λ h. h.library) last ∙ l.held.library ∙ ap (λ k. owner_in k.ending k.library) (sym lease); sends = λ _. ap (λ h. h.sends) last ∙ ap (λ n. n + 1) (l.held.sends active) ∙ ap (λ k. k.sends) (sym lease) };
-      one_runs = only_with_last one_sent s.leases l.one_runs;
-      few = omega (arith, length-with_last one_sent s.leases, l.few);
+      one_runs = only_with_last lease_with_send s.leases l.one_runs;
+      few = omega (arith, length-with_last lease_with_send s.leases, l.few);
       named = λ _. subst (λ k. IsLibrary k.library) (sym lease) (l.named some);
       numbered = omega (arith, length-with_last one_more s.series, l.numbered);
-      begun = omega (arith, length-with_last one_more_send s.holdings, l.begun);
+      begun = omega (arith, length-with_last holding_with_send s.holdings, l.begun);
     }
 
-ends : (limit : ℕ) (s : State) (ending : Ending) (reserved : Option (ℕ × ℕ)) (latest : Option Entry) → owner_in ending (last_lease s.leases).library ≡ 0 → IsActive s → Lawful limit s → Lawful limit (record { leases = with_last (ended_as ending) s.leases; holdings = s.holdings ++ engine_from s.inbound ∷ []; inbound = s.inbound; series = s.series; reserved = reserved; bound = s.bound; latest = latest })
+ends : (limit : ℕ) (s : State) (ending : Ending) (reserved : Option (ℕ × ℕ)) (latest : Option Entry) → owner_in ending (last_lease s.leases).library ≡ 0 → IsActive s → Lawful limit s → Lawful limit (record { leases = with_last (lease_with_ending ending) s.leases; holdings = s.holdings ++ engine_from s.inbound ∷ []; inbound = s.inbound; series = s.series; reserved = reserved; bound = s.bound; latest = latest })
 ends limit s ending reserved latest over active l =
     let some = some_lease s.leases active in
     let last = last_or_push (engine_from 0) s.holdings (engine_from s.inbound) in
-    let lease = last_or-with_last (ended_as ending) no_lease s.leases some in
+    let lease = last_or-with_last (lease_with_ending ending) no_lease s.leases some in
     let free = ap (λ k. owner_in k.ending k.library) lease ∙ over in record {
       adjoining = adjoin_push s.holdings (engine_from 0) s.inbound (engine_from s.inbound) refl (omega arith) (record { from_engine = λ none. absurd (omega (arith, l.held.library)); from_library = λ _. refl }) l.adjoining;
       held = record { library = ap (λ h. h.library) last ∙ sym free; sends = λ now. absurd (omega (arith, free, now)) };
-      one_runs = only_with_last (ended_as ending) s.leases l.one_runs;
-      few = omega (arith, length-with_last (ended_as ending) s.leases, l.few);
+      one_runs = only_with_last (lease_with_ending ending) s.leases l.one_runs;
+      few = omega (arith, length-with_last (lease_with_ending ending) s.leases, l.few);
       named = λ _. subst (λ k. IsLibrary k.library) (sym lease) (l.named some);
       numbered = l.numbered;
       begun = omega (arith, length_push s.holdings (engine_from s.inbound));
@@ -164,11 +164,11 @@ grants limit s library nr from latest is free l =
       begun = omega (arith, length_push s.holdings new_span);
     }
 
-requests : (limit : ℕ) (s : State) (library nr from : ℕ) → IsLibrary library → Lawful limit s → (why : Option Why) → why_refused limit s library from ≡ why → Lawful limit (recorded s (answered s library nr from why))
+requests : (limit : ℕ) (s : State) (library nr from : ℕ) → IsLibrary library → Lawful limit s → (why : Option Why) → why_refused limit s library from ≡ why → Lawful limit (state_after s (request_entry s library nr from why))
 requests limit s library nr from is l None h = grants limit s library nr from _ is (granted_free limit s library from h) l
 requests limit s library nr from is l (Some why) h = keeps limit s s.series s.reserved s.bound _ l.numbered l
 
-happens : (limit : ℕ) (s : State) (event : Event) → CanHappen s event → Lawful limit s → Lawful limit (recorded s (step limit s event))
+happens : (limit : ℕ) (s : State) (event : Event) → CanHappen s event → Lawful limit s → Lawful limit (state_after s (step limit s event))
 happens limit s Arrives can l = arrives limit s l
 happens limit s AdminSent can l = keeps limit s _ s.reserved s.bound _ (omega (arith, length-with_last one_more s.series, l.numbered)) l
 happens limit s (Binds c) can l = keeps limit s s.series s.reserved (Some c) _ l.numbered l
@@ -182,5 +182,5 @@ happens limit s TimesOut can l = ends limit s TakenBack s.reserved _ refl can l
 happens limit s (Holds until) can l = keeps limit s s.series _ s.bound _ l.numbered l
 happens limit s Lapses can l = keeps limit s s.series None s.bound _ l.numbered l
 
-pub lawful_next : (limit : ℕ) (s : State) (e : Entry) → Lawful limit s → IsNext limit s e → Lawful limit (recorded s e)
-lawful_next limit s e l next = subst (λ x. Lawful limit (recorded s x)) (sym next.is_step.entry) (happens limit s next.is_step.event next.is_step.can_happen l)
+pub lawful_next : (limit : ℕ) (s : State) (e : Entry) → Lawful limit s → IsNext limit s e → Lawful limit (state_after s e)
+lawful_next limit s e l next = subst (λ x. Lawful limit (state_after s x)) (sym next.is_step.entry) (happens limit s next.is_step.event next.is_step.can_happen l)

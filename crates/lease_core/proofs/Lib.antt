@@ -10,3 +10,5 @@ pub mod Words
 pub mod GivenBack
 pub mod Causes
 pub mod WordsShown
+pub mod LinesAfter
+pub mod Deeds

@@ -1,25 +1,25 @@
 -- Adjoining spans stay so as the last one changes and as one is added.
 use Rattle.std.proofs.Common.{◌≡◌, ℕ, ◌<◌, ◌≤◌, Bool, true, false, not, List, [], ◌∷◌, ◌++◌, refl, arith}
 use Rattle.lease_core.specs.declared.entry.Holding.{Holding}
-use Rattle.lease_core.specs.State.{with_last, last_or, ended_at, one_more_send}
+use Rattle.lease_core.specs.State.{with_last, last_or, holding_with_end, holding_with_send}
 use Rattle.lease_core.specs.Holdings.{HasTurn, Adjoin, AreAdjoining}
 
-grow_from : (b : ℕ) (t : Bool) (h : Holding) (hs : List Holding) (n m : ℕ) → n ≤ m → Adjoin b t (h ∷ hs) n → Adjoin b t (with_last (ended_at m) (h ∷ hs)) m
+grow_from : (b : ℕ) (t : Bool) (h : Holding) (hs : List Holding) (n m : ℕ) → n ≤ m → Adjoin b t (h ∷ hs) n → Adjoin b t (with_last (holding_with_end m) (h ∷ hs)) m
 grow_from b t h [] n m le (p, e) = (record { starts = p.starts; forward = omega (arith, p.forward); turn = p.turn }, refl)
 grow_from b t h (k ∷ ks) n m le (p, q) = (p, grow_from h.end (not t) k ks n m le q)
 
 -- a message arrives
-pub adjoin_grow : (hs : List Holding) (n m : ℕ) → n ≤ m → AreAdjoining hs n → AreAdjoining (with_last (ended_at m) hs) m
+pub adjoin_grow : (hs : List Holding) (n m : ℕ) → n ≤ m → AreAdjoining hs n → AreAdjoining (with_last (holding_with_end m) hs) m
 adjoin_grow [] n m le a = a
 adjoin_grow (h ∷ []) n m le a = grow_from 0 true h [] n m le a
 adjoin_grow (h ∷ k ∷ ks) n m le a = grow_from 0 true h (k ∷ ks) n m le a
 
-count_from : (b : ℕ) (t : Bool) (h : Holding) (hs : List Holding) (n : ℕ) → Adjoin b t (h ∷ hs) n → Adjoin b t (with_last one_more_send (h ∷ hs)) n
+count_from : (b : ℕ) (t : Bool) (h : Holding) (hs : List Holding) (n : ℕ) → Adjoin b t (h ∷ hs) n → Adjoin b t (with_last holding_with_send (h ∷ hs)) n
 count_from b t h [] n (p, e) = (record { starts = p.starts; forward = p.forward; turn = p.turn }, e)
 count_from b t h (k ∷ ks) n (p, q) = (p, count_from h.end (not t) k ks n q)
 
 -- a library sends
-pub adjoin_count : (hs : List Holding) (n : ℕ) → AreAdjoining hs n → AreAdjoining (with_last one_more_send hs) n
+pub adjoin_count : (hs : List Holding) (n : ℕ) → AreAdjoining hs n → AreAdjoining (with_last holding_with_send hs) n
 adjoin_count [] n a = a
 adjoin_count (h ∷ []) n a = count_from 0 true h [] n a
 adjoin_count (h ∷ k ∷ ks) n a = count_from 0 true h (k ∷ ks) n a

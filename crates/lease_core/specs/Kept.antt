@@ -3,13 +3,11 @@ use Rattle.std.specs.Prelude.{◌≡◌, ℕ, ◌≤◌, ◌⊎◌, List}
 use Rattle.lease_core.specs.declared.entry.Entry.{Entry}
 use Rattle.lease_core.specs.declared.entry.Holding.{Holding}
 use Rattle.lease_core.specs.declared.totals.Totals.{Totals}
-use Rattle.lease_core.specs.declared.word.Standing.{Standing}
-use Rattle.lease_core.specs.declared.word.Standing.TheVariants.{Active, Released, Revoked}
 use Rattle.lease_core.specs.declared.word.Word.{Word}
 use Rattle.lease_core.specs.State.{State, state_of, last_lease, lease_of}
-use Rattle.lease_core.specs.Steps.{IsLibrary}
 use Rattle.lease_core.specs.Runs.{IsRun}
 use Rattle.lease_core.specs.Totals.{totals_of}
+use Rattle.lease_core.specs.Showable.{NamesOwner}
 
 pub record Kept : Type 0 where
   pub entries : List Entry
@@ -22,13 +20,7 @@ pub record IsKept (entries : List Entry) (limit : ℕ) (holdings : List Holding)
   pub holdings_are : holdings ≡ (state_of entries).holdings
   pub totals_are : totals ≡ totals_of (state_of entries)
 
--- the owner of a word is the last lease's library, or any library where the session was given back
-abbrev pub NamesOwner : Standing → ℕ → ℕ → Type 0
-NamesOwner Active owner library = owner ≡ library
-NamesOwner Revoked owner library = owner ≡ library
-NamesOwner Released owner library = (owner ≡ library) ⊎ IsLibrary owner
-
--- the word is of the last lease, and not older than what was recorded of it
+-- the word can be shown, in what the code looks at: it is of the last lease, and not older than what was recorded of it
 pub record IsCurrent (s : State) (w : Word) : Type 0 where
   pub lease : w.lease ≡ lease_of s
   pub owner : NamesOwner w.standing w.owner (last_lease s.leases).library

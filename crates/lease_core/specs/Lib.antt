@@ -3,6 +3,8 @@ pub mod State
 pub mod Steps
 pub mod Runs
 pub mod Lines
+pub mod Showable
+pub mod Deeds
 pub mod Holdings
 pub mod Totals
 pub mod Kept

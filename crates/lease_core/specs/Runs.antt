@@ -2,7 +2,7 @@
 use Rattle.std.specs.Prelude.{◌≡◌, ℕ, List, [], ◌∷◌, Bool, true, false, IsTrue, IsSome, nat_lt, Option, Some, None}
 use Rattle.lease_core.specs.declared.entry.Entry.{Entry}
 use Rattle.lease_core.specs.declared.entry.Entry.TheVariants.{Bind, Plan, Leave, Reset, Release, Hold}
-use Rattle.lease_core.specs.State.{State, recorded, opening}
+use Rattle.lease_core.specs.State.{State, state_after, opening}
 use Rattle.lease_core.specs.declared.event.Event.{Event}
 use Rattle.lease_core.specs.Steps.{step, CanHappen}
 
@@ -44,7 +44,7 @@ pub record IsNext (limit : ℕ) (s : State) (e : Entry) : Type 0 where
 
 abbrev pub IsRunFrom : ℕ → State → List Entry → Type 0
 IsRunFrom limit s [] = Unit {0}
-IsRunFrom limit s (e ∷ es) = IsNext limit s e × IsRunFrom limit (recorded s e) es
+IsRunFrom limit s (e ∷ es) = IsNext limit s e × IsRunFrom limit (state_after s e) es
 
 -- each entry follows from those before it
 unfoldable pub IsRun : ℕ → List Entry → Type 0

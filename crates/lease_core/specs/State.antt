@@ -29,34 +29,34 @@ pub record State : Type 0 where
   pub bound : Option ℕ
   pub latest : Option Entry
 
-abbrev pub one_sent : Lease → Lease
-one_sent l = record l { sends = l.sends + 1 }
+abbrev pub lease_with_send : Lease → Lease
+lease_with_send l = record l { sends = l.sends + 1 }
 
-abbrev pub ended_as : Ending → Lease → Lease
-ended_as ending l = record l { ending = ending }
+abbrev pub lease_with_ending : Ending → Lease → Lease
+lease_with_ending ending l = record l { ending = ending }
 
 abbrev pub leases_after : List Lease → Entry → List Lease
 leases_after leases (Granted library nr lease from start) = leases ++ record { library = library; from = from; start = start; sends = 0; ending = Running } ∷ []
-leases_after leases (Send lease library ordinal number) = with_last one_sent leases
-leases_after leases (Release lease library count heir) = with_last (ended_as (GivenBack heir)) leases
-leases_after leases (Timeout lease library count) = with_last (ended_as TakenBack) leases
+leases_after leases (Send lease library ordinal number) = with_last lease_with_send leases
+leases_after leases (Release lease library count heir) = with_last (lease_with_ending (GivenBack heir)) leases
+leases_after leases (Timeout lease library count) = with_last (lease_with_ending TakenBack) leases
 leases_after leases _ = leases
 
 -- the engine has the session from this position on
 abbrev pub engine_from : ℕ → Holding
 engine_from at = record { library = 0; lease = 0; from = at; start = at; end = at; sends = 0 }
 
-abbrev pub ended_at : ℕ → Holding → Holding
-ended_at at h = record h { end = at }
+abbrev pub holding_with_end : ℕ → Holding → Holding
+holding_with_end at h = record h { end = at }
 
-abbrev pub one_more_send : Holding → Holding
-one_more_send h = record h { sends = h.sends + 1 }
+abbrev pub holding_with_send : Holding → Holding
+holding_with_send h = record h { sends = h.sends + 1 }
 
 -- a span begins with each grant and with each end of a lease, and the last one grows as messages arrive
 abbrev pub holdings_after : List Holding → ℕ → Entry → List Holding
-holdings_after holdings inbound (Arrive pos) = with_last (ended_at (inbound + 1)) holdings
+holdings_after holdings inbound (Arrive pos) = with_last (holding_with_end (inbound + 1)) holdings
 holdings_after holdings inbound (Granted library nr lease from start) = holdings ++ record { library = library; lease = lease; from = from; start = start; end = start; sends = 0 } ∷ []
-holdings_after holdings inbound (Send lease library ordinal number) = with_last one_more_send holdings
+holdings_after holdings inbound (Send lease library ordinal number) = with_last holding_with_send holdings
 holdings_after holdings inbound (Release lease library count heir) = holdings ++ engine_from inbound ∷ []
 holdings_after holdings inbound (Timeout lease library count) = holdings ++ engine_from inbound ∷ []
 holdings_after holdings inbound _ = holdings
@@ -99,8 +99,8 @@ bound_after bound (Leave c) = None
 bound_after bound _ = bound
 
 -- one entry more
-abbrev pub recorded : State → Entry → State
-recorded s e = record {
+abbrev pub state_after : State → Entry → State
+state_after s e = record {
   leases = leases_after s.leases e;
   holdings = holdings_after s.holdings s.inbound e;
   inbound = inbound_after s.inbound e;
@@ -115,7 +115,7 @@ abbrev pub opening : State
 opening = record { leases = []; holdings = engine_from 0 ∷ []; inbound = 0; series = 0 ∷ []; reserved = None; bound = None; latest = None }
 
 unfoldable pub state_of : List Entry → State
-state_of entries = fold recorded opening entries
+state_of entries = fold state_after opening entries
 
 abbrev pub owner_in : Ending → ℕ → ℕ
 owner_in Running library = library

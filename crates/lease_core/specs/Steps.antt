@@ -7,6 +7,7 @@ use Rattle.lease_core.specs.declared.event.Event.TheVariants.{Arrives, AdminSent
 use Rattle.lease_core.specs.declared.entry.Entry.TheVariants.{Arrive, Admin, Bind, Plan, Leave, Reset, Granted, Refused, Send, Release, Timeout, Hold, Lapse}
 use Rattle.lease_core.specs.declared.entry.Why.{Why}
 use Rattle.lease_core.specs.declared.entry.Why.TheVariants.{OtherOwner, Reserved, LeasesSpent, MissingMessages}
+use Rattle.lease_core.specs.declared.limits.TheConstants.{MOST_LIBRARIES}
 use Rattle.lease_core.specs.declared.messages.Reply.{Reply}
 use Rattle.lease_core.specs.declared.messages.Reply.TheVariants.{Granted as ToGranted, Refused as ToRefused}
 use Rattle.lease_core.specs.State.{State, state_of, last_lease, owner_of, lease_of, series_of, sent_in_series}
@@ -45,8 +46,8 @@ abbrev pub reply_to : ℕ → State → ℕ → ℕ → Reply
 reply_to limit s library from = reply_by s (why_refused limit s library from)
 
 -- the entry of a request, by the first cause that refuses it, if there is one
-abbrev pub answered : State → ℕ → ℕ → ℕ → Option Why → Entry
-answered s library nr from why = entry_with library nr from (reply_by s why)
+abbrev pub request_entry : State → ℕ → ℕ → ℕ → Option Why → Entry
+request_entry s library nr from why = entry_with library nr from (reply_by s why)
 
 abbrev pub send_entry : State → Entry
 send_entry s = let l = last_lease s.leases in Send (lease_of s) l.library (l.sends + 1) (sent_in_series s + 1)
@@ -68,7 +69,7 @@ step limit s (Binds c) = Bind c
 step limit s (Plans begin last at) = Plan begin last at
 step limit s (Leaves c) = Leave c
 step limit s Resets = Reset (series_of s + 1)
-step limit s (Requests library nr from) = answered s library nr from (why_refused limit s library from)
+step limit s (Requests library nr from) = request_entry s library nr from (why_refused limit s library from)
 step limit s Sends = send_entry s
 step limit s (Releases heir) = release_entry s heir
 step limit s TimesOut = timeout_entry s
@@ -78,7 +79,7 @@ step limit s Lapses = Lapse (lease_of s)
 -- a library, and not the engine
 pub record IsLibrary (library : ℕ) : Type 0 where
   pub from_one : 1 ≤ library
-  pub to_last : library ≤ 16
+  pub to_last : library ≤ MOST_LIBRARIES
 
 -- a library has the session by the last lease
 abbrev pub IsActive : State → Type 0
@@ -86,7 +87,7 @@ IsActive s = 0 < owner_of s
 
 -- nobody, or another library than the one that gives the session back
 pub record IsHeir (s : State) (heir : ℕ) : Type 0 where
-  pub to_last : heir ≤ 16
+  pub to_last : heir ≤ MOST_LIBRARIES
   pub other : heir ≢ (last_lease s.leases).library
 
 abbrev pub CanHappen : State → Event → Type 0
@@ -104,8 +105,8 @@ CanHappen s (Holds until) = Unit {0}
 CanHappen s Lapses = IsSome s.reserved
 
 -- the entries, followed by the step's
-abbrev pub followed : ℕ → List Entry → Event → List Entry
-followed limit entries event = entries ++ step limit (state_of entries) event ∷ []
+abbrev pub entries_after : ℕ → List Entry → Event → List Entry
+entries_after limit entries event = entries ++ step limit (state_of entries) event ∷ []
 
 -- the session is reserved for nobody else
 abbrev pub IsOpenTo : Option (ℕ × ℕ) → ℕ → Type 0

@@ -1,4 +1,6 @@
-ghost use Rattle.lease_core.specs.Laws.{HoldingsAdjoin, OneOwner, LinesAreRaised, LinesAreHeld, LinesAreTakenBack, WordsAreShown, WordsAreCurrent, EntriesDecide, RunsGoOn};
+//! What holds of every list of entries and of every word, each law as the clause of a function
+//! that does nothing.
+ghost use Rattle.lease_core.specs.Laws.{HoldingsAdjoin, OneOwner, LinesAreRaised, LinesAreHeld, LinesAreTakenBack, LinesGoOn, LinesGoOnOver, LinesTellOwner, LinesTellLease, WordsAreShown, WordsAreShowable, WordsCanTimeOut, WordsAreRead, WordsAreWritten, PushedIsLast, PushedIsChanged, DeedsAreTold, LibraryDeedsAreTold, EntriesDecide, EntriesDecideOver, RunsGoOn, RunsGoOnOver};
 
 /// Whatever happened to a session, the spans of its ownership are adjoining: they cut its inbound
 /// log into intervals, the engine's and a library's in turns.
@@ -12,22 +14,56 @@ pub fn one_owner_at_a_time()
 {}
 
 /// What a lease word adds to the lines of a session's leases is what it adds to the journal.
-pub fn lines_of_extended_are_raised()
+pub fn words_raise_lines()
     ensures shown { LinesAreRaised }
     ensures held { LinesAreHeld }
     ensures timed_out { LinesAreTakenBack }
 {}
 
-/// The word of a journal is shown by it. A word that the engine reads, which its lines then stand
-/// for, meets what `Registry::show` asks.
-pub fn words_fit_their_lines()
-    ensures shown { WordsAreShown }
-    ensures current { WordsAreCurrent }
+/// What an entry adds to a journal's lines follows from them and from that entry.
+pub fn lines_go_on()
+    ensures one { LinesGoOn }
+    ensures list { LinesGoOnOver }
 {}
 
-/// What a journal comes to, and whether it is lawful, follows from the entries before the last one
-/// and from that entry.
+/// Who has the session, and by which lease, can be read off the lines.
+pub fn lines_tell_the_owner()
+    ensures owner { LinesTellOwner }
+    ensures lease { LinesTellLease }
+{}
+
+/// The word of a journal is shown by it. A word that the engine reads, which its lines then stand
+/// for, meets what `Registry::show` and `Registry::timeout` ask.
+pub fn words_fit_their_lines()
+    ensures shown { WordsAreShown }
+    ensures showable { WordsAreShowable }
+    ensures can_time_out { WordsCanTimeOut }
+{}
+
+/// The number of a word stands for that word and no other.
+pub fn words_are_numbers()
+    ensures read { WordsAreRead }
+    ensures written { WordsAreWritten }
+{}
+
+/// The line that is put behind others is their last one.
+pub fn last_lines_are_last()
+    ensures last { PushedIsLast }
+    ensures changed { PushedIsChanged }
+{}
+
+/// What was done by the leases of a session, by all and by each library's, is what the lines tell:
+/// for each lease its sends from the first to its count, and then its end.
+pub fn lines_tell_deeds()
+    ensures all { DeedsAreTold }
+    ensures library { LibraryDeedsAreTold }
+{}
+
+/// What a journal comes to, and whether it is lawful, follows from the entries before the last
+/// ones and from those.
 pub fn entries_decide_one_by_one()
     ensures state { EntriesDecide }
+    ensures states { EntriesDecideOver }
     ensures run { RunsGoOn }
+    ensures runs { RunsGoOnOver }
 {}

@@ -37,3 +37,27 @@ pub struct Line {
     pub sends: u32,
     pub ending: Ending,
 }
+
+/// What was done by a lease, as a journal and its lines both tell it.
+#[derive(Clone, Copy, Debug, PartialEq, Eq)]
+pub enum Deed {
+    /// The library made the lease's `ordinal`-th send, from 1.
+    Sent {
+        lease: u32,
+        library: u8,
+        ordinal: u32,
+    },
+    /// The library gave the session back after so many sends, for an heir to take unless that is 0.
+    GaveBack {
+        lease: u32,
+        library: u8,
+        count: u32,
+        heir: u8,
+    },
+    /// The engine took the session back after so many sends.
+    TookBack {
+        lease: u32,
+        library: u8,
+        count: u32,
+    },
+}

@@ -7,35 +7,22 @@
 //! engine and the libraries share how the last lease stands.
 #![tactic(auto)]
 
-#[cfg(test)]
-mod acts;
 mod entry;
 mod event;
 mod journal;
-mod laws;
+pub mod laws;
 mod lease;
+mod limits;
 mod messages;
 mod news;
-#[cfg(test)]
-mod plain;
 mod registry;
-#[cfg(test)]
-mod rows;
 mod totals;
 mod word;
 
 pub use entry::{Entry, Holding, Why};
 pub use event::Event;
-pub use laws::{
-    entries_decide_one_by_one, holdings_adjoin, lines_of_extended_are_raised, one_owner_at_a_time,
-    words_fit_their_lines,
-};
-pub use lease::{Ending, Lease, Line};
+pub use lease::{Deed, Ending, Lease, Line};
+pub use limits::{MOST_LEASES, MOST_LIBRARIES};
 pub use messages::{Command, Notice, Reply};
 pub use registry::{Registry, Shown};
 pub use word::{Standing, Word, read_word, write_word};
-
-#[cfg(test)]
-mod tests;
-#[cfg(test)]
-mod values;

@@ -3,7 +3,7 @@ ghost use Rattle.lease_core.specs.State.{state_of, last_lease};
 ghost use Rattle.lease_core.specs.Steps.{IsActive, IsLibrary};
 ghost use Rattle.lease_core.specs.Runs.{owes_hold};
 ghost use Rattle.lease_core.specs.Kept.{IsCurrent};
-ghost use Rattle.lease_core.specs.Lines.{one_send, with_sends, given_back, given_back_by, heir_named, held_until, news_count, is_released, timed_out};
+ghost use Rattle.lease_core.specs.Lines.{entries_after_send, entries_after_sends, entries_after_release, entries_after_standing, heir_named, entries_after_hold, news_count, is_released, entries_after_timeout};
 
 use crate::journal::Journal;
 use crate::{Entry, Standing, Word};
@@ -15,7 +15,7 @@ impl Journal {
         requires active { IsActive (state_of self.old.entries) }
         requires settled { owes_hold (state_of self.old.entries).latest ≡ false }
         requires fits { (last_lease (state_of self.old.entries).leases).sends + 1 < 2 ^ 32 }
-        ensures entries { self.new.entries ≡ one_send self.old.entries }
+        ensures entries { self.new.entries ≡ entries_after_send self.old.entries }
         ensures leases { self.new.leases ≡ self.old.leases }
         ensures spare { self.old.spare ≤ self.new.spare + 1 }
     {
@@ -34,7 +34,7 @@ impl Journal {
         requires active { IsActive (state_of self.old.entries) }
         requires settled { owes_hold (state_of self.old.entries).latest ≡ false }
         requires fits { (last_lease (state_of self.old.entries).leases).sends + n < 2 ^ 32 }
-        ensures entries { self.new.entries ≡ with_sends n self.old.entries }
+        ensures entries { self.new.entries ≡ entries_after_sends n self.old.entries }
         ensures leases { self.new.leases ≡ self.old.leases }
         ensures spare { self.old.spare ≤ self.new.spare + n }
     {
@@ -49,7 +49,7 @@ impl Journal {
         requires active { IsActive (state_of self.old.entries) }
         requires settled { owes_hold (state_of self.old.entries).latest ≡ false }
         requires owner { (owner ≡ (last_lease (state_of self.old.entries).leases).library) ⊎ IsLibrary owner }
-        ensures entries { self.new.entries ≡ given_back owner self.old.entries }
+        ensures entries { self.new.entries ≡ entries_after_release owner self.old.entries }
         ensures heir { result ≡ heir_named owner (last_lease (state_of self.old.entries).leases).library }
         ensures leases { self.new.leases ≡ self.old.leases }
         ensures spare { self.old.spare ≤ self.new.spare + 1 }
@@ -72,7 +72,7 @@ impl Journal {
         requires active { IsActive (state_of self.old.entries) }
         requires settled { owes_hold (state_of self.old.entries).latest ≡ false }
         requires owner { (owner ≡ (last_lease (state_of self.old.entries).leases).library) ⊎ IsLibrary owner }
-        ensures entries { self.new.entries ≡ held_until until (given_back owner self.old.entries) }
+        ensures entries { self.new.entries ≡ entries_after_hold until (entries_after_release owner self.old.entries) }
         ensures leases { self.new.leases ≡ self.old.leases }
         ensures spare { self.old.spare ≤ self.new.spare + 2 }
         ensures settled { owes_hold (state_of self.new.entries).latest ≡ false }
@@ -91,7 +91,7 @@ impl Journal {
         requires active { IsActive (state_of self.old.entries) }
         requires settled { owes_hold (state_of self.old.entries).latest ≡ false }
         requires current { IsCurrent (state_of self.old.entries) w }
-        ensures entries { self.new.entries ≡ held_until until (given_back_by w.standing w.owner (with_sends (news_count self.old.entries w) self.old.entries)) }
+        ensures entries { self.new.entries ≡ entries_after_hold until (entries_after_standing w.standing w.owner (entries_after_sends (news_count self.old.entries w) self.old.entries)) }
         ensures ended { result ≡ is_released w.standing }
         ensures leases { self.new.leases ≡ self.old.leases }
         ensures spare { self.old.spare ≤ self.new.spare + (news_count self.old.entries w + (if is_released w.standing then 2 else 0)) }
@@ -114,7 +114,7 @@ impl Journal {
         requires room { 0 < self.old.spare }
         requires active { IsActive (state_of self.old.entries) }
         requires settled { owes_hold (state_of self.old.entries).latest ≡ false }
-        ensures entries { self.new.entries ≡ timed_out Standing.Active self.old.entries }
+        ensures entries { self.new.entries ≡ entries_after_timeout Standing.Active self.old.entries }
         ensures leases { self.new.leases ≡ self.old.leases }
         ensures spare { self.old.spare ≤ self.new.spare + 1 }
         ensures settled { owes_hold (state_of self.new.entries).latest ≡ false }

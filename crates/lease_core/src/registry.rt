@@ -1,12 +1,11 @@
 ghost use Rattle.std.specs.Prelude.{◌≡◌, ◌≢◌, ℕ, ◌≤◌, ◌<◌, ◌+◌, ◌-◌, ◌^◌, ◌++◌, ◌∷◌, [], ◌↔◌, ◌&&◌, IfOk, OnOk, IsSome, IsTrue, IsNone, None, Some, if◌then◌else◌, false};
-ghost use Rattle.lease_core.specs.declared.word.Standing.{Standing};
 ghost use Rattle.lease_core.specs.State.{state_of, owner_of, lease_of, series_of, sent_in_series, sent_in_all};
 ghost use Rattle.lease_core.specs.declared.event.Event.TheVariants.{Arrives, AdminSent, Binds, Plans, Leaves, Resets, Requests, Lapses};
-ghost use Rattle.lease_core.specs.Steps.{followed, why_refused, entry_with, reply_to, IsLibrary, IsActive, CanTake};
+ghost use Rattle.lease_core.specs.Steps.{entries_after, why_refused, entry_with, reply_to, IsLibrary, IsActive, CanTake};
 ghost use Rattle.lease_core.specs.Runs.{IsRun, is_bind};
-ghost use Rattle.lease_core.specs.Lines.{lines_of, word_of, extended, held_until, timed_out, raised, taken_back, is_news, news_count, is_released};
+ghost use Rattle.lease_core.specs.Lines.{lines_of, word_of, entries_after_word, entries_after_hold, entries_after_timeout, raises, raised, missing_sends, taken_back, is_released, lines_after_reply};
 ghost use Rattle.lease_core.specs.Holdings.{holdings_of, AreAdjoining};
-ghost use Rattle.lease_core.specs.Kept.{IsCurrent};
+ghost use Rattle.lease_core.specs.Showable.{IsShowable, CanTimeOut};
 
 use crate::journal::Journal;
 use crate::{Entry, Holding, Reply, Why, Word};
@@ -69,7 +68,8 @@ impl Registry {
     /// An application message was accepted. Answers its position in the inbound log.
     pub fn arrive(&mut self) -> u64
         requires { 0 < self.old.spare }
-        ensures entries { self.new.entries ≡ followed self.old.leases self.old.entries Arrives }
+        ensures entries { self.new.entries ≡ entries_after self.old.leases self.old.entries Arrives }
+        ensures lines { lines_of self.new.entries ≡ lines_of self.old.entries }
         ensures pos { result ≡ (state_of self.old.entries).inbound }
         ensures leases { self.new.leases ≡ self.old.leases }
         ensures spare { self.old.spare ≤ self.new.spare + 1 }
@@ -82,7 +82,8 @@ impl Registry {
     /// A session message was sent. Answers its number in the present series.
     pub fn admin(&mut self) -> u64
         requires { 0 < self.old.spare }
-        ensures entries { self.new.entries ≡ followed self.old.leases self.old.entries AdminSent }
+        ensures entries { self.new.entries ≡ entries_after self.old.leases self.old.entries AdminSent }
+        ensures lines { lines_of self.new.entries ≡ lines_of self.old.entries }
         ensures number { result ≡ sent_in_series (state_of self.old.entries) + 1 }
         ensures leases { self.new.leases ≡ self.old.leases }
         ensures spare { self.old.spare ≤ self.new.spare + 1 }
@@ -96,7 +97,8 @@ impl Registry {
     pub fn bind(&mut self, c: u32)
         requires room { 0 < self.old.spare }
         requires free { (state_of self.old.entries).bound ≡ None }
-        ensures entries { self.new.entries ≡ followed self.old.leases self.old.entries (Binds c) }
+        ensures entries { self.new.entries ≡ entries_after self.old.leases self.old.entries (Binds c) }
+        ensures lines { lines_of self.new.entries ≡ lines_of self.old.entries }
         ensures leases { self.new.leases ≡ self.old.leases }
         ensures spare { self.old.spare ≤ self.new.spare + 1 }
     {
@@ -107,7 +109,8 @@ impl Registry {
     pub fn plan(&mut self, begin: u64, last: u64, at: u64)
         requires room { 0 < self.old.spare }
         requires bound { IsSome (state_of self.old.entries).bound }
-        ensures entries { self.new.entries ≡ followed self.old.leases self.old.entries (Plans begin last at) }
+        ensures entries { self.new.entries ≡ entries_after self.old.leases self.old.entries (Plans begin last at) }
+        ensures lines { lines_of self.new.entries ≡ lines_of self.old.entries }
         ensures leases { self.new.leases ≡ self.old.leases }
         ensures spare { self.old.spare ≤ self.new.spare + 1 }
     {
@@ -118,7 +121,8 @@ impl Registry {
     pub fn leave(&mut self, c: u32)
         requires room { 0 < self.old.spare }
         requires bound { (state_of self.old.entries).bound ≡ Some c }
-        ensures entries { self.new.entries ≡ followed self.old.leases self.old.entries (Leaves c) }
+        ensures entries { self.new.entries ≡ entries_after self.old.leases self.old.entries (Leaves c) }
+        ensures lines { lines_of self.new.entries ≡ lines_of self.old.entries }
         ensures leases { self.new.leases ≡ self.old.leases }
         ensures spare { self.old.spare ≤ self.new.spare + 1 }
     {
@@ -130,8 +134,9 @@ impl Registry {
     pub fn reset(&mut self) -> u32
         requires room { 0 < self.old.spare }
         requires bound { IsTrue (is_bind (state_of self.old.entries).latest) }
-        requires left { series_of (state_of self.old.entries) < 4294967295 }
-        ensures entries { self.new.entries ≡ followed self.old.leases self.old.entries Resets }
+        requires left { series_of (state_of self.old.entries) < u32.MAX }
+        ensures entries { self.new.entries ≡ entries_after self.old.leases self.old.entries Resets }
+        ensures lines { lines_of self.new.entries ≡ lines_of self.old.entries }
         ensures series { result ≡ series_of (state_of self.old.entries) + 1 }
         ensures leases { self.new.leases ≡ self.old.leases }
         ensures spare { self.old.spare ≤ self.new.spare + 1 }
@@ -145,7 +150,8 @@ impl Registry {
     pub fn lapse(&mut self)
         requires room { 0 < self.old.spare }
         requires reserved { IsSome (state_of self.old.entries).reserved }
-        ensures entries { self.new.entries ≡ followed self.old.leases self.old.entries Lapses }
+        ensures entries { self.new.entries ≡ entries_after self.old.leases self.old.entries Lapses }
+        ensures lines { lines_of self.new.entries ≡ lines_of self.old.entries }
         ensures leases { self.new.leases ≡ self.old.leases }
         ensures spare { self.old.spare ≤ self.new.spare + 1 }
     {
@@ -157,7 +163,8 @@ impl Registry {
     pub fn request(&mut self, library: u8, nr: u32, from: u64) -> Reply
         requires room { 0 < self.old.spare }
         requires library { IsLibrary library }
-        ensures entries { self.new.entries ≡ followed self.old.leases self.old.entries (Requests library nr from) }
+        ensures entries { self.new.entries ≡ entries_after self.old.leases self.old.entries (Requests library nr from) }
+        ensures lines { lines_of self.new.entries ≡ lines_after_reply (lines_of self.old.entries) library result }
         ensures reply { result ≡ reply_to self.old.leases (state_of self.old.entries) library from }
         ensures leases { self.new.leases ≡ self.old.leases }
         ensures spare { self.old.spare ≤ self.new.spare + 1 }
@@ -182,13 +189,13 @@ impl Registry {
     /// Records the sends and the end that a word of the last lease shows. Where it shows that the
     /// session was given back to an heir, the session waits for that one until the moment `until`.
     pub fn show(&mut self, w: Word, until: u64) -> Shown
-        requires room { news_count self.old.entries w + 2 ≤ self.old.spare }
-        requires current { IsCurrent (state_of self.old.entries) w }
-        ensures entries { self.new.entries ≡ held_until until (extended self.old.entries w) }
+        requires room { missing_sends (lines_of self.old.entries) w + 2 ≤ self.old.spare }
+        requires showable { IsShowable (lines_of self.old.entries) w }
+        ensures entries { self.new.entries ≡ entries_after_hold until (entries_after_word self.old.entries w) }
         ensures lines { lines_of self.new.entries ≡ raised (lines_of self.old.entries) w }
         ensures first { result.first ≡ sent_in_series (state_of self.old.entries) + 1 }
-        ensures sends { result.sends ≡ (if is_news self.old.entries w then news_count self.old.entries w else 0) }
-        ensures ended { result.ended ≡ (is_news self.old.entries w && is_released w.standing) }
+        ensures sends { result.sends ≡ (if raises (lines_of self.old.entries) w then missing_sends (lines_of self.old.entries) w else 0) }
+        ensures ended { result.ended ≡ (raises (lines_of self.old.entries) w && is_released w.standing) }
         ensures active { IsActive (state_of self.old.entries) → result.ended ≡ false → IsActive (state_of self.new.entries) }
         ensures leases { self.new.leases ≡ self.old.leases }
         ensures spare { self.old.spare ≤ self.new.spare + (result.sends + (if result.ended then 2 else 0)) }
@@ -212,14 +219,12 @@ impl Registry {
     /// Records the sends that the old word of the last lease shows, and that the engine took the
     /// session back, unless the library gave it back before.
     pub fn timeout(&mut self, old: Word, until: u64) -> Shown
-        requires room { news_count self.old.entries old + 2 ≤ self.old.spare }
-        requires current { IsCurrent (state_of self.old.entries) old }
-        requires active { IsActive (state_of self.old.entries) }
-        requires standing { old.standing ≢ Standing.Revoked }
-        ensures entries { self.new.entries ≡ timed_out old.standing (held_until until (extended self.old.entries old)) }
+        requires room { missing_sends (lines_of self.old.entries) old + 2 ≤ self.old.spare }
+        requires can_time_out { CanTimeOut (lines_of self.old.entries) old }
+        ensures entries { self.new.entries ≡ entries_after_timeout old.standing (entries_after_hold until (entries_after_word self.old.entries old)) }
         ensures lines { lines_of self.new.entries ≡ taken_back old.standing (raised (lines_of self.old.entries) old) }
         ensures first { result.first ≡ sent_in_series (state_of self.old.entries) + 1 }
-        ensures sends { result.sends ≡ news_count self.old.entries old }
+        ensures sends { result.sends ≡ missing_sends (lines_of self.old.entries) old }
         ensures ended { IsTrue result.ended }
         ensures leases { self.new.leases ≡ self.old.leases }
         ensures spare { self.old.spare ≤ self.new.spare + (result.sends + 2) }

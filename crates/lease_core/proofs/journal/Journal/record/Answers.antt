@@ -3,7 +3,7 @@ use Rattle.std.proofs.Common.{◌≡◌, ◌-◌, ap, sym, ◌∙◌, arith}
 use Rattle.lease_core.specs.declared.totals.Totals.{Totals}
 use Rattle.lease_core.specs.State.{state_of}
 use Rattle.lease_core.specs.Runs.{owes_hold}
-use Rattle.lease_core.specs.Lines.{with_sends, news_count, held_until}
+use Rattle.lease_core.specs.Lines.{entries_after_sends, news_count, entries_after_hold}
 use Rattle.lease_core.proofs.Raised.{active-with_sends, library-with_sends, settled-with_sends}
 use Rattle.lease_core.proofs.GivenBack.{released_owner, not_given_back, held_settled}
 use Rattle.lease_core.proofs.journal.Journal.record.Goals as goal
@@ -23,11 +23,11 @@ pub returns-in-Active : goal.returns-in-Active
 returns-in-Active c =
     let old = c.args.self.now.entries in
     let news = news_count old c.args.w in
-    let stays = not_given_back c.args.w.standing c.args.w.owner (with_sends news old) c.in-Active.is in
+    let stays = not_given_back c.args.w.standing c.args.w.owner (entries_after_sends news old) c.in-Active.is in
     let counted : c.args.w.count - c.totals.result.now.lease.sends ≡ news = ap (λ (t : Totals). c.args.w.count - t.lease.sends) c.totals.ensures.totals in
-    let sent = c.send_times.ensures.entries ∙ ap (λ n. with_sends n old) counted in
+    let sent = c.send_times.ensures.entries ∙ ap (λ n. entries_after_sends n old) counted in
     let settled = settled-with_sends news old c.requires.settled in record {
-      entries = sent ∙ sym (ap (held_until c.args.until) stays.0 ∙ held_settled c.args.until (with_sends news old) settled);
+      entries = sent ∙ sym (ap (entries_after_hold c.args.until) stays.0 ∙ held_settled c.args.until (entries_after_sends news old) settled);
       ended = sym stays.1;
       leases = c.send_times.ensures.leases;
       spare = omega (arith, counted, c.send_times.ensures.spare);

@@ -1,7 +1,9 @@
-use Rattle.std.proofs.Common.{◌≡◌, refl, subst, sym, Some}
+use Rattle.std.proofs.Common.{◌≡◌, refl, subst, sym, Some, ap, ◌∙◌}
 use Rattle.lease_core.specs.State.{state_of}
 use Rattle.lease_core.specs.Kept.{Kept}
 use Rattle.lease_core.specs.declared.event.Event.TheVariants.{Leaves}
+use Rattle.lease_core.specs.Lines.{lines_of}
+use Rattle.lease_core.proofs.LinesAfter.{lines-push}
 use Rattle.lease_core.proofs.Settled.{next_by, settled_by}
 use Rattle.lease_core.proofs.registry.Registry.leave.Goals as goal
 
@@ -12,3 +14,6 @@ push-requires-clause-next c =
 
 pub invariant_of-self : goal.invariant_of-self
 invariant_of-self c = rw c.push.ensures.entries (settled_by _ _ refl)
+
+pub returns-clause-lines : goal.returns-clause-lines
+returns-clause-lines c = ap lines_of c.push.ensures.entries ∙ lines-push c.self.inside.journal.entries _ ∙ ap (λ (k : Kept). lines_of k.entries) c.self.view_is

@@ -3,6 +3,8 @@ use Rattle.std.proofs.Common.{ap, sym, ◌∙◌}
 use Rattle.lease_core.specs.State.{state_of}
 use Rattle.lease_core.specs.Steps.{reply_to}
 use Rattle.lease_core.specs.Kept.{Kept}
+use Rattle.lease_core.specs.Lines.{lines_of, lines_after, lines_after_reply}
+use Rattle.lease_core.proofs.LinesAfter.{lines-push, lines-request}
 use Rattle.lease_core.proofs.Settled.{next_request, settled_by, settled_request}
 use Rattle.lease_core.proofs.Causes.{when_granted, when_owned, when_reserved, when_spent, when_missing}
 use Rattle.lease_core.proofs.registry.Registry.request.Goals as goal
@@ -29,3 +31,11 @@ returns-clause-leases_spent c = rw c.reply-reply.ensures (when_spent c.args.self
 
 pub returns-clause-missing : goal.returns-clause-missing
 returns-clause-missing c = rw c.reply-reply.ensures (when_missing c.args.self.now.leases (state_of c.args.self.now.entries) c.args.library c.args.from)
+
+pub returns-clause-lines : goal.returns-clause-lines
+returns-clause-lines c =
+    ap lines_of c.push.ensures.entries
+    ∙ lines-push c.self.inside.journal.entries c.entry_with.result
+    ∙ ap (lines_after (lines_of c.self.inside.journal.entries)) c.entry_with.ensures
+    ∙ lines-request (lines_of c.self.inside.journal.entries) c.args.library c.args.nr c.args.from c.reply-reply.result
+    ∙ ap (λ (k : Kept). lines_after_reply (lines_of k.entries) c.args.library c.reply-reply.result) c.self.view_is

@@ -1,12 +1,13 @@
 -- the word is news exactly where a library has the session
-use Rattle.std.proofs.Common.{◌≡◌, ◌<◌, false, ap, sym, ◌∙◌, subst, arith}
+use Rattle.std.proofs.Common.{◌≡◌, ◌-◌, ◌+◌, ◌<◌, ◌≤◌, false, true, Bool, cond, ◌&&◌, ℕ, ap, sym, ◌∙◌, subst, arith}
 use Rattle.lease_core.specs.declared.totals.Totals.{Totals}
-use Rattle.lease_core.specs.State.{state_of, owner_in, owner_of}
+use Rattle.lease_core.specs.State.{state_of, last_lease, owner_in, owner_of}
 use Rattle.lease_core.specs.Runs.{owes_hold}
-use Rattle.lease_core.specs.Lines.{lines_of, held_until, given_back_by, with_sends, news_count}
+use Rattle.lease_core.specs.Lines.{lines_of, raises, missing_sends, is_released, entries_after_hold, entries_after_standing, entries_after_sends, news_count}
 use Rattle.lease_core.specs.Steps.{IsActive}
-use Rattle.lease_core.specs.Kept.{Kept}
-use Rattle.lease_core.proofs.GivenBack.{nothing_new, extended_by, still_active}
+use Rattle.lease_core.specs.Kept.{Kept, IsCurrent}
+use Rattle.lease_core.proofs.GivenBack.{nothing_new, extended_by, still_active, raises_owned, raises_free}
+use Rattle.lease_core.proofs.LinesAfter.{current_of, missing-lines}
 use Rattle.lease_core.proofs.WordsShown.{lines-shown}
 use Rattle.lease_core.proofs.registry.Registry.show.Goals as goal
 
@@ -15,21 +16,65 @@ returns-then-owner-eq0-clause-entries c =
     let none : owner_of (state_of c.self.inside.journal.entries) ≡ 0 = ap (λ (t : Totals). owner_in t.lease.ending t.lease.library) (sym c.totals.ensures.totals) ∙ sym c.owner.ensures ∙ c.if-owner-eq0.true in
     let none_there = ap (λ (k : Kept). owner_of (state_of k.entries)) (sym c.self.view_is) ∙ none in
     let settled = subst (λ (k : Kept). owes_hold (state_of k.entries).latest ≡ false) c.self.view_is c.self.invariant in
-    sym (nothing_new c.args.self.now.entries c.args.w c.args.until c.requires.current none_there settled)
+    sym (nothing_new c.args.self.now.entries c.args.w c.args.until (current_of c.args.self.now.entries c.args.w c.requires.showable) none_there settled)
 
 pub returns-clause-entries : goal.returns-clause-entries
 returns-clause-entries c =
     let some : IsActive (state_of c.args.self.now.entries) = subst (λ (k : Kept). 0 < owner_of (state_of k.entries)) c.self.view_is (subst (λ (t : Totals). 0 < owner_in t.lease.ending t.lease.library) c.totals.ensures.totals (omega (arith, c.owner.ensures, c.if-owner-eq0.false))) in
-    c.record.ensures.entries ∙ ap (λ (k : Kept). held_until c.args.until (given_back_by c.args.w.standing c.args.w.owner (with_sends (news_count k.entries c.args.w) k.entries))) c.self.view_is ∙ ap (held_until c.args.until) (sym (extended_by c.args.self.now.entries c.args.w c.requires.current some))
+    c.record.ensures.entries ∙ ap (λ (k : Kept). entries_after_hold c.args.until (entries_after_standing c.args.w.standing c.args.w.owner (entries_after_sends (news_count k.entries c.args.w) k.entries))) c.self.view_is ∙ ap (entries_after_hold c.args.until) (sym (extended_by c.args.self.now.entries c.args.w (current_of c.args.self.now.entries c.args.w c.requires.showable) some))
 
 pub returns-clause-active : goal.returns-clause-active
 returns-clause-active c = λ active kept.
     let settled = subst (λ (k : Kept). owes_hold (state_of k.entries).latest ≡ false) c.self.view_is c.self.invariant in
-    let new = c.record.ensures.entries ∙ ap (λ (k : Kept). held_until c.args.until (given_back_by c.args.w.standing c.args.w.owner (with_sends (news_count k.entries c.args.w) k.entries))) c.self.view_is ∙ ap (held_until c.args.until) (sym (extended_by c.args.self.now.entries c.args.w c.requires.current active)) in
-    subst (λ es. IsActive (state_of es)) (sym new) (still_active c.args.self.now.entries c.args.w c.args.until c.requires.current active settled (sym c.record.ensures.ended ∙ kept))
+    let new = c.record.ensures.entries ∙ ap (λ (k : Kept). entries_after_hold c.args.until (entries_after_standing c.args.w.standing c.args.w.owner (entries_after_sends (news_count k.entries c.args.w) k.entries))) c.self.view_is ∙ ap (entries_after_hold c.args.until) (sym (extended_by c.args.self.now.entries c.args.w (current_of c.args.self.now.entries c.args.w c.requires.showable) active)) in
+    subst (λ es. IsActive (state_of es)) (sym new) (still_active c.args.self.now.entries c.args.w c.args.until (current_of c.args.self.now.entries c.args.w c.requires.showable) active settled (sym c.record.ensures.ended ∙ kept))
 
 pub returns-then-owner-eq0-clause-lines : goal.returns-then-owner-eq0-clause-lines
 returns-then-owner-eq0-clause-lines c = ap lines_of (returns-then-owner-eq0-clause-entries c) ∙ lines-shown c.args.self.now.entries c.args.w c.args.until
 
 pub returns-clause-lines : goal.returns-clause-lines
 returns-clause-lines c = ap lines_of (returns-clause-entries c) ∙ lines-shown c.args.self.now.entries c.args.w c.args.until
+
+pub returns-then-owner-eq0-clause-sends : goal.returns-then-owner-eq0-clause-sends
+returns-then-owner-eq0-clause-sends c =
+    let none : owner_of (state_of c.self.inside.journal.entries) ≡ 0 = ap (λ (t : Totals). owner_in t.lease.ending t.lease.library) (sym c.totals.ensures.totals) ∙ sym c.owner.ensures ∙ c.if-owner-eq0.true in
+    let none_there = ap (λ (k : Kept). owner_of (state_of k.entries)) (sym c.self.view_is) ∙ none in
+    let free = raises_free c.args.self.now.entries c.args.w (current_of c.args.self.now.entries c.args.w c.requires.showable) none_there in
+    sym (ap (λ b. cond b (missing_sends (lines_of c.args.self.now.entries) c.args.w) 0) free)
+
+pub returns-then-owner-eq0-clause-ended : goal.returns-then-owner-eq0-clause-ended
+returns-then-owner-eq0-clause-ended c =
+    let none : owner_of (state_of c.self.inside.journal.entries) ≡ 0 = ap (λ (t : Totals). owner_in t.lease.ending t.lease.library) (sym c.totals.ensures.totals) ∙ sym c.owner.ensures ∙ c.if-owner-eq0.true in
+    let none_there = ap (λ (k : Kept). owner_of (state_of k.entries)) (sym c.self.view_is) ∙ none in
+    let free = raises_free c.args.self.now.entries c.args.w (current_of c.args.self.now.entries c.args.w c.requires.showable) none_there in
+    sym (ap (λ b. b && is_released c.args.w.standing) free)
+
+pub overflow_sub-result : goal.overflow_sub-result
+overflow_sub-result c =
+    let current = current_of c.args.self.now.entries c.args.w c.requires.showable in
+    subst (λ (t : Totals). t.lease.sends ≤ c.args.w.count) (sym c.totals.ensures.totals) (subst (λ (k : Kept). (last_lease (state_of k.entries).leases).sends ≤ c.args.w.count) (sym c.self.view_is) current.count)
+
+pub record-requires-clause-room : goal.record-requires-clause-room
+record-requires-clause-room c =
+    let room = subst (λ n. n + 2 ≤ c.args.self.now.spare) (missing-lines c.args.self.now.entries c.args.w) c.requires.room in
+    subst (λ (k : Kept). news_count k.entries c.args.w + 2 ≤ k.spare) (sym c.self.view_is) room
+
+pub record-requires-clause-current : goal.record-requires-clause-current
+record-requires-clause-current c = subst (λ (k : Kept). IsCurrent (state_of k.entries) c.args.w) (sym c.self.view_is) (current_of c.args.self.now.entries c.args.w c.requires.showable)
+
+pub returns-clause-sends : goal.returns-clause-sends
+returns-clause-sends c =
+    let entries = c.args.self.now.entries in
+    let active : IsActive (state_of entries) = subst (λ (k : Kept). 0 < owner_of (state_of k.entries)) c.self.view_is (subst (λ (t : Totals). 0 < owner_in t.lease.ending t.lease.library) c.totals.ensures.totals (omega (arith, c.owner.ensures, c.if-owner-eq0.false))) in
+    let owned = raises_owned entries c.args.w (current_of entries c.args.w c.requires.showable) active in
+    ap (λ (t : Totals). c.args.w.count - t.lease.sends) c.totals.ensures.totals
+    ∙ ap (λ (k : Kept). news_count k.entries c.args.w) c.self.view_is
+    ∙ sym (missing-lines entries c.args.w)
+    ∙ sym (ap (λ b. cond b (missing_sends (lines_of entries) c.args.w) 0) owned)
+
+pub returns-clause-ended : goal.returns-clause-ended
+returns-clause-ended c =
+    let entries = c.args.self.now.entries in
+    let active : IsActive (state_of entries) = subst (λ (k : Kept). 0 < owner_of (state_of k.entries)) c.self.view_is (subst (λ (t : Totals). 0 < owner_in t.lease.ending t.lease.library) c.totals.ensures.totals (omega (arith, c.owner.ensures, c.if-owner-eq0.false))) in
+    let owned = raises_owned entries c.args.w (current_of entries c.args.w c.requires.showable) active in
+    c.record.ensures.ended ∙ sym (ap (λ b. b && is_released c.args.w.standing) owned)

@@ -6,8 +6,9 @@ use Rattle.lease_core.specs.declared.word.Standing.{Standing}
 use Rattle.lease_core.specs.declared.word.Standing.TheVariants.{Active, Released, Revoked}
 use Rattle.lease_core.specs.declared.word.Word.{Word}
 use Rattle.lease_core.specs.State.{state_of, owner_of}
-use Rattle.lease_core.specs.Lines.{lines_of, raised, taken_back, is_news, is_released}
-use Rattle.lease_core.proofs.GivenBack.{news_by_owner}
+use Rattle.lease_core.specs.Lines.{lines_of, raises, raised, taken_back, is_released}
+use Rattle.lease_core.proofs.GivenBack.{raises_owned}
+use Rattle.lease_core.proofs.LinesAfter.{current_of, active_of}
 use Rattle.lease_core.proofs.WordsShown.{lines-timed_out}
 use Rattle.lease_core.specs.Steps.{IsActive}
 use Rattle.lease_core.specs.Kept.{Kept, IsCurrent}
@@ -18,7 +19,7 @@ is_not true h = sym h
 is_not false h = refl
 
 pub time_out-requires-clause-active : goal.time_out-requires-clause-active
-time_out-requires-clause-active c = subst (λ (k : Kept). IsActive (state_of k.entries)) (sym c.self.view_is) (c.show-shown.ensures.active c.requires.active (is_not c.show-shown.result.ended c.if-not-shown.true))
+time_out-requires-clause-active c = subst (λ (k : Kept). IsActive (state_of k.entries)) (sym c.self.view_is) (c.show-shown.ensures.active (active_of c.args.self.now.entries c.requires.can_time_out.owned) (is_not c.show-shown.result.ended c.if-not-shown.true))
 
 -- neither given back nor taken back yet
 active_standing : (standing : Standing) → is_released standing ≡ false → (standing ≡ Revoked → ⊥) → standing ≡ Active
@@ -26,15 +27,15 @@ active_standing Active kept not_revoked = refl
 active_standing Released kept not_revoked = absurd (false≢true (sym kept))
 active_standing Revoked kept not_revoked = absurd (not_revoked refl)
 
-not_given : (entries : List Entry) (w : Word) → IsCurrent (state_of entries) w → IsActive (state_of entries) → (is_news entries w && is_released w.standing) ≡ false → is_released w.standing ≡ false
-not_given entries w current active kept = ap (λ b. b && is_released w.standing) (sym (news_by_owner entries w current ∙ lt-ltb 0 (owner_of (state_of entries)) active)) ∙ kept
+not_given : (entries : List Entry) (w : Word) → IsCurrent (state_of entries) w → IsActive (state_of entries) → (raises (lines_of entries) w && is_released w.standing) ≡ false → is_released w.standing ≡ false
+not_given entries w current active kept = ap (λ b. b && is_released w.standing) (sym (raises_owned entries w current active)) ∙ kept
 
 pub returns-then-not-shown-clause-lines : goal.returns-then-not-shown-clause-lines
 returns-then-not-shown-clause-lines c =
     let open_still = sym c.show-shown.ensures.ended ∙ is_not c.show-shown.result.ended c.if-not-shown.true in
-    let kept = not_given c.args.self.now.entries c.args.old c.requires.current c.requires.active open_still in
-    let is = active_standing c.args.old.standing kept c.requires.standing in
-    let active = subst (λ (k : Kept). IsActive (state_of k.entries)) (sym c.self.view_is) (c.show-shown.ensures.active c.requires.active (is_not c.show-shown.result.ended c.if-not-shown.true)) in
+    let kept = not_given c.args.self.now.entries c.args.old (current_of c.args.self.now.entries c.args.old c.requires.can_time_out.showable) (active_of c.args.self.now.entries c.requires.can_time_out.owned) open_still in
+    let is = active_standing c.args.old.standing kept c.requires.can_time_out.standing in
+    let active = subst (λ (k : Kept). IsActive (state_of k.entries)) (sym c.self.view_is) (c.show-shown.ensures.active (active_of c.args.self.now.entries c.requires.can_time_out.owned) (is_not c.show-shown.result.ended c.if-not-shown.true)) in
     ap lines_of c.time_out.ensures.entries
     ∙ lines-timed_out c.self.inside.journal.entries Active active
     ∙ ap (λ (k : Kept). taken_back Active (lines_of k.entries)) c.self.view_is

@@ -1,6 +1,6 @@
 use Rattle.lease_core.proofs.Raised.{lines-extended}
 use Rattle.lease_core.proofs.WordsShown.{lines-held, lines-timed_out}
-use Rattle.lease_core.proofs.laws.lines_of_extended_are_raised.Goals as goal
+use Rattle.lease_core.proofs.laws.words_raise_lines.Goals as goal
 
 pub returns-clause-shown : goal.returns-clause-shown
 returns-clause-shown c = lines-extended
