@@ -12,3 +12,4 @@ pub mod Causes
 pub mod WordsShown
 pub mod LinesAfter
 pub mod Deeds
+pub mod Accepted

@@ -1,6 +1,6 @@
 -- The lines of a journal with entries more, and what they tell of its state.
-use Rattle.std.proofs.Common.{◌≡◌, ℕ, ◌<◌, ◌≤◌, List, [], ◌∷◌, ◌++◌, length, map, fold, refl, sym, ap, ◌∙◌, subst, append_assoc}
-use Rattle.std.proofs.lemmas.List.{length-map, map-append, append-nil}
+use Rattle.std.proofs.Common.{◌≡◌, ℕ, ◌<◌, ◌≤◌, List, [], ◌∷◌, ◌++◌, length, map, fold, get_or, take, drop, ◌+◌, refl, sym, ap, ◌∙◌, subst, append_assoc}
+use Rattle.std.proofs.lemmas.List.{length-map, map-append, append-nil, take-append-drop, take_more}
 use Rattle.std.proofs.lemmas.List.Sums.{fold-append}
 use Rattle.lease_core.specs.declared.entry.Entry.{Entry}
 use Rattle.lease_core.specs.declared.entry.Entry.TheVariants.{Granted, Send, Release, Timeout}
@@ -85,3 +85,10 @@ current_of entries w shows = record {
   owner = subst (λ (l : Line). NamesOwner w.standing w.owner l.library) (last_line-of entries) shows.owner;
   count = subst (λ (l : Line). l.sends ≤ w.count) (last_line-of entries) shows.count;
 }
+
+-- each entry of a lawful journal may stand behind those before it
+pub next_at : (limit : ℕ) (entries : List Entry) (i : ℕ) (d : Entry) → i < length entries → IsRun limit entries → IsNext limit (state_of (take i entries)) (get_or entries i d)
+next_at limit entries i d inside run =
+    let first = parts_of_run limit (take (i + 1) entries) (drop (i + 1) entries) (subst (IsRun limit) (sym (take-append-drop (i + 1) entries)) run) in
+    let both = run_before limit (take i entries) (get_or entries i d) (subst (IsRun limit) (take_more entries i d inside) first.0) in
+    both.1

@@ -7,5 +7,6 @@ pub mod Showable
 pub mod Deeds
 pub mod Holdings
 pub mod Totals
+pub mod Accepts
 pub mod Kept
 pub mod Laws

@@ -51,6 +51,8 @@ impl Journal {
                 sent_in_series: 0,
                 sent: 0,
                 reserved: None,
+                bound: None,
+                latest: None,
             },
         })
     }

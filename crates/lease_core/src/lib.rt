@@ -7,6 +7,7 @@
 //! engine and the libraries share how the last lease stands.
 #![tactic(auto)]
 
+mod accepts;
 mod entry;
 mod event;
 mod journal;
@@ -15,6 +16,8 @@ mod lease;
 mod limits;
 mod messages;
 mod news;
+mod record;
+mod recovery;
 mod registry;
 mod totals;
 mod word;
@@ -24,5 +27,7 @@ pub use event::Event;
 pub use lease::{Deed, Ending, Lease, Line};
 pub use limits::{MOST_LEASES, MOST_LIBRARIES};
 pub use messages::{Command, Notice, Reply};
+pub use record::Record;
+pub use recovery::Recovery;
 pub use registry::{Registry, Shown};
 pub use word::{Standing, Word, read_word, write_word};

@@ -43,14 +43,13 @@ impl Journal {
         }
     }
 
-    /// The library gives the session back, to whom the owner of its word says. Answers the heir.
-    fn release(&mut self, owner: u8) -> u8
+    /// The library gives the session back, to whom the owner of its word says.
+    fn release(&mut self, owner: u8)
         requires room { 0 < self.old.spare }
         requires active { IsActive (state_of self.old.entries) }
         requires settled { owes_hold (state_of self.old.entries).latest ≡ false }
         requires owner { (owner ≡ (last_lease (state_of self.old.entries).leases).library) ⊎ IsLibrary owner }
         ensures entries { self.new.entries ≡ entries_after_release owner self.old.entries }
-        ensures heir { result ≡ heir_named owner (last_lease (state_of self.old.entries).leases).library }
         ensures leases { self.new.leases ≡ self.old.leases }
         ensures spare { self.old.spare ≤ self.new.spare + 1 }
     {
@@ -63,7 +62,6 @@ impl Journal {
             count: totals.lease.sends,
             heir,
         });
-        heir
     }
 
     /// The library gives the session back, and the session waits for the heir, if there is one.
@@ -77,10 +75,24 @@ impl Journal {
         ensures spare { self.old.spare ≤ self.new.spare + 2 }
         ensures settled { owes_hold (state_of self.new.entries).latest ≡ false }
     {
-        let heir = self.release(owner);
-        if heir > 0 {
-            let lease = self.totals().leases;
-            self.push(Entry::Hold { lease, until });
+        self.release(owner);
+        self.hold(until);
+    }
+
+    /// The hold follows where it is missing.
+    pub fn hold(&mut self, until: u64)
+        requires room { 0 < self.old.spare }
+        ensures entries { self.new.entries ≡ entries_after_hold until self.old.entries }
+        ensures leases { self.new.leases ≡ self.old.leases }
+        ensures spare { self.old.spare ≤ self.new.spare + 1 }
+        ensures settled { owes_hold (state_of self.new.entries).latest ≡ false }
+    {
+        let totals = *self.totals();
+        if totals.owes_hold() {
+            self.push(Entry::Hold {
+                lease: totals.leases,
+                until,
+            });
         }
     }
 

@@ -2,13 +2,13 @@ ghost use Rattle.std.specs.Prelude.{◌≡◌, ◌≢◌, ℕ, ◌≤◌, ◌<�
 ghost use Rattle.lease_core.specs.State.{state_of, owner_of, lease_of, series_of, sent_in_series, sent_in_all};
 ghost use Rattle.lease_core.specs.declared.event.Event.TheVariants.{Arrives, AdminSent, Binds, Plans, Leaves, Resets, Requests, Lapses};
 ghost use Rattle.lease_core.specs.Steps.{entries_after, why_refused, entry_with, reply_to, IsLibrary, IsActive, CanTake};
-ghost use Rattle.lease_core.specs.Runs.{IsRun, is_bind};
+ghost use Rattle.lease_core.specs.Runs.{IsRun, is_bind, owes_hold};
 ghost use Rattle.lease_core.specs.Lines.{lines_of, word_of, entries_after_word, entries_after_hold, entries_after_timeout, raises, raised, missing_sends, taken_back, is_released, lines_after_reply};
 ghost use Rattle.lease_core.specs.Holdings.{holdings_of, AreAdjoining};
 ghost use Rattle.lease_core.specs.Showable.{IsShowable, CanTimeOut};
 
 use crate::journal::Journal;
-use crate::{Entry, Holding, Reply, Why, Word};
+use crate::{Entry, Holding, Recovery, Reply, Why, Word};
 use gate_io::NoMemory;
 use std::alloc::Global;
 use std::marker::Model;
@@ -53,6 +53,20 @@ impl Registry {
         Ok(Registry {
             journal: Journal::new(alloc, leases)?,
         })
+    }
+
+    /// The registry behind entries that were read back. Where the last of them is a release whose
+    /// hold is missing, that follows, and the session waits for the heir until the moment `until`.
+    pub fn resume(recovery: Recovery, until: u64) -> Registry
+        requires { 0 < recovery.spare }
+        ensures entries { result.entries ≡ entries_after_hold until recovery.entries }
+        ensures lines { lines_of result.entries ≡ lines_of recovery.entries }
+        ensures leases { result.leases ≡ recovery.leases }
+        ensures spare { recovery.spare ≤ result.spare + 1 }
+    {
+        let mut journal = recovery.journal;
+        journal.hold(until);
+        Registry { journal }
     }
 
     /// Makes room for n more entries. Many calls together take time in proportion to the entries.
@@ -243,6 +257,9 @@ impl Registry {
     pub fn entries(&self) -> &[Entry]
         ensures entries { result.now ≡ self.now.entries }
         ensures run { IsRun self.now.leases self.now.entries }
+
+        // They don't end in a release whose hold is missing.
+        ensures settled { owes_hold (state_of self.now.entries).latest ≡ false }
     {
         self.journal.entries()
     }
@@ -292,6 +309,13 @@ impl Registry {
         ensures { result ≡ (state_of self.now.entries).reserved }
     {
         self.journal.totals().reserved
+    }
+
+    /// The connection to which the session is bound.
+    pub fn bound(&self) -> Option<u32>
+        ensures { result ≡ (state_of self.now.entries).bound }
+    {
+        self.journal.totals().bound
     }
 
     /// The word that the journal comes to.

@@ -1,6 +1,6 @@
 ghost use Rattle.std.specs.Prelude.{◌≡◌, ◌+◌, ◌<◌, ◌^◌, None};
-ghost use Rattle.lease_core.specs.Totals.{totals_after};
-ghost use Rattle.lease_core.specs.State.{owner_in, heir_in};
+ghost use Rattle.lease_core.specs.Totals.{numbers_after, totals_after};
+ghost use Rattle.lease_core.specs.State.{owner_in, heir_in, bound_after};
 ghost use Rattle.lease_core.specs.Lines.{word_by, line_of};
 
 use crate::{Ending, Entry, Lease, Standing, Word};
@@ -15,6 +15,8 @@ pub struct Totals {
     pub sent_in_series: u64,
     pub sent: u64,
     pub reserved: Option<(u8, u64)>,
+    pub bound: Option<u32>,
+    pub latest: Option<Entry>,
 }
 
 impl Totals {
@@ -63,12 +65,25 @@ impl Totals {
         requires sent { self.sent + 1 < 2 ^ 64 }
         ensures { result ≡ totals_after self entry }
     {
+        let bound = bound_after(self.bound, entry);
+        Totals {
+            bound,
+            latest: Some(entry),
+            ..self.numbers_after(entry)
+        }
+    }
+
+    fn numbers_after(self, entry: Entry) -> Totals
+        requires inbound { self.inbound + 1 < 2 ^ 64 }
+        requires sent { self.sent + 1 < 2 ^ 64 }
+        ensures { result ≡ numbers_after self entry }
+    {
         match entry {
             Entry::Arrive { .. } => Totals {
                 inbound: self.inbound + 1,
                 ..self
             },
-            Entry::Admin { number } => self.numbered(number),
+            Entry::Admin { number } => self.with_number(number),
             Entry::Reset { series } => Totals {
                 series,
                 sent_in_series: 0,
@@ -80,7 +95,7 @@ impl Totals {
                 from,
                 start,
                 ..
-            } => self.granted(
+            } => self.with_lease(
                 lease,
                 Lease {
                     library,
@@ -93,17 +108,17 @@ impl Totals {
                 ordinal,
                 number,
                 ..
-            } => self.counted(ordinal).numbered(number),
-            Entry::Release { heir, .. } => self.ended(Ending::GivenBack { heir }),
-            Entry::Timeout { .. } => self.ended(Ending::TakenBack),
-            Entry::Hold { until, .. } => self.waiting_for(Some((self.heir(), until))),
-            Entry::Lapse { .. } => self.waiting_for(None),
+            } => self.with_sends(ordinal).with_number(number),
+            Entry::Release { heir, .. } => self.with_ending(Ending::GivenBack { heir }),
+            Entry::Timeout { .. } => self.with_ending(Ending::TakenBack),
+            Entry::Hold { until, .. } => self.with_reserved(Some((self.heir(), until))),
+            Entry::Lapse { .. } => self.with_reserved(None),
             Entry::Bind { .. } | Entry::Plan { .. } | Entry::Leave { .. } | Entry::Refused { .. } =>
                 self,
         }
     }
 
-    fn granted(self, leases: u32, lease: Lease) -> Totals
+    fn with_lease(self, leases: u32, lease: Lease) -> Totals
         ensures { result ≡ record self { leases = leases; lease = lease; reserved = None } }
     {
         Totals {
@@ -114,13 +129,13 @@ impl Totals {
         }
     }
 
-    fn waiting_for(self, reserved: Option<(u8, u64)>) -> Totals
+    fn with_reserved(self, reserved: Option<(u8, u64)>) -> Totals
         ensures { result ≡ record self { reserved = reserved } }
     {
         Totals { reserved, ..self }
     }
 
-    fn numbered(self, number: u64) -> Totals
+    fn with_number(self, number: u64) -> Totals
         requires { self.sent + 1 < 2 ^ 64 }
         ensures { result ≡ record self { sent_in_series = number; sent = self.sent + 1 } }
     {
@@ -131,7 +146,7 @@ impl Totals {
         }
     }
 
-    fn counted(self, sends: u32) -> Totals
+    fn with_sends(self, sends: u32) -> Totals
         ensures { result ≡ record self { lease = record (self.lease) { sends = sends } } }
     {
         Totals {
@@ -143,7 +158,7 @@ impl Totals {
         }
     }
 
-    fn ended(self, ending: Ending) -> Totals
+    fn with_ending(self, ending: Ending) -> Totals
         ensures { result ≡ record self { lease = record (self.lease) { ending = ending } } }
     {
         Totals {
@@ -153,5 +168,15 @@ impl Totals {
             },
             ..self
         }
+    }
+}
+
+fn bound_after(bound: Option<u32>, entry: Entry) -> Option<u32>
+    ensures { result ≡ bound_after bound entry }
+{
+    match entry {
+        Entry::Bind { c } => Some(c),
+        Entry::Leave { .. } => None,
+        _ => bound,
     }
 }

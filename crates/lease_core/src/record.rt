@@ -1,0 +1,14 @@
+use crate::Entry;
+use gate_io::Bytes;
+
+/// An entry as it is kept for recovery: of session `s`, made at the moment `at` where the entry has
+/// one, with the body that was accepted or sent. `expected` is the session's expected number
+/// behind the call that made the entry.
+#[derive(Debug, Drop)]
+pub struct Record {
+    pub s: u16,
+    pub entry: Entry,
+    pub at: u64,
+    pub body: Bytes,
+    pub expected: u32,
+}
