@@ -13,3 +13,4 @@ pub mod WordsShown
 pub mod LinesAfter
 pub mod Deeds
 pub mod Accepted
+pub mod SentMore

@@ -1,5 +1,5 @@
 -- What the entries of a session's journal come to. It follows from the entries alone.
-use Rattle.std.specs.Prelude.{ℕ, ◌+◌, List, [], ◌∷◌, ◌++◌, length, sum, fold, Option, Some, None}
+use Rattle.std.specs.Prelude.{◌≡◌, ℕ, ◌+◌, List, [], ◌∷◌, ◌++◌, length, sum, fold, Option, Some, None}
 use Rattle.lease_core.specs.declared.entry.Entry.{Entry}
 use Rattle.lease_core.specs.declared.entry.Entry.TheVariants.{Arrive, Admin, Bind, Leave, Reset, Granted, Send, Release, Timeout, Hold, Lapse}
 use Rattle.lease_core.specs.declared.entry.Holding.{Holding}
@@ -138,3 +138,11 @@ sent_in_series s = last_or 0 s.series
 
 abbrev pub sent_in_all : State → ℕ
 sent_in_all s = sum s.series
+
+-- So many sends came, in the present series. The inbound log, the series and the connection are as they were.
+pub record SentMore (n : ℕ) (s t : State) : Type 0 where
+  pub inbound : t.inbound ≡ s.inbound
+  pub series : series_of t ≡ series_of s
+  pub number : sent_in_series t ≡ sent_in_series s + n
+  pub all : sent_in_all t ≡ sent_in_all s + n
+  pub bound : t.bound ≡ s.bound

@@ -85,6 +85,7 @@ impl Journal {
     pub fn totals(&self) -> &Totals
         ensures totals { result.now ≡ totals_of (state_of self.now.entries) }
         ensures few { result.now.sent_in_series < 2 ^ 63 }
+        ensures series { 0 < result.now.series }
     {
         &self.totals
     }

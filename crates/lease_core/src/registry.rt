@@ -1,7 +1,7 @@
 ghost use Rattle.std.specs.Prelude.{◌≡◌, ◌≢◌, ℕ, ◌≤◌, ◌<◌, ◌+◌, ◌-◌, ◌^◌, ◌++◌, ◌∷◌, [], ◌↔◌, ◌&&◌, IfOk, OnOk, IsSome, IsTrue, IsNone, None, Some, if◌then◌else◌, false};
-ghost use Rattle.lease_core.specs.State.{state_of, owner_of, lease_of, series_of, sent_in_series, sent_in_all};
+ghost use Rattle.lease_core.specs.State.{state_of, state_after, SentMore, owner_of, lease_of, series_of, sent_in_series, sent_in_all};
 ghost use Rattle.lease_core.specs.declared.event.Event.TheVariants.{Arrives, AdminSent, Binds, Plans, Leaves, Resets, Requests, Lapses};
-ghost use Rattle.lease_core.specs.Steps.{entries_after, why_refused, entry_with, reply_to, IsLibrary, IsActive, CanTake};
+ghost use Rattle.lease_core.specs.Steps.{step, entries_after, why_refused, entry_with, reply_to, IsLibrary, IsActive, CanTake};
 ghost use Rattle.lease_core.specs.Runs.{IsRun, is_bind, owes_hold};
 ghost use Rattle.lease_core.specs.Lines.{lines_of, word_of, entries_after_word, entries_after_hold, entries_after_timeout, raises, raised, missing_sends, taken_back, is_released, lines_after_reply};
 ghost use Rattle.lease_core.specs.Holdings.{holdings_of, AreAdjoining};
@@ -83,6 +83,7 @@ impl Registry {
     pub fn arrive(&mut self) -> u64
         requires { 0 < self.old.spare }
         ensures entries { self.new.entries ≡ entries_after self.old.leases self.old.entries Arrives }
+        ensures state { let s = state_of self.old.entries in state_of self.new.entries ≡ state_after s (step self.old.leases s Arrives) }
         ensures lines { lines_of self.new.entries ≡ lines_of self.old.entries }
         ensures pos { result ≡ (state_of self.old.entries).inbound }
         ensures leases { self.new.leases ≡ self.old.leases }
@@ -97,6 +98,7 @@ impl Registry {
     pub fn admin(&mut self) -> u64
         requires { 0 < self.old.spare }
         ensures entries { self.new.entries ≡ entries_after self.old.leases self.old.entries AdminSent }
+        ensures state { let s = state_of self.old.entries in state_of self.new.entries ≡ state_after s (step self.old.leases s AdminSent) }
         ensures lines { lines_of self.new.entries ≡ lines_of self.old.entries }
         ensures number { result ≡ sent_in_series (state_of self.old.entries) + 1 }
         ensures leases { self.new.leases ≡ self.old.leases }
@@ -112,6 +114,7 @@ impl Registry {
         requires room { 0 < self.old.spare }
         requires free { (state_of self.old.entries).bound ≡ None }
         ensures entries { self.new.entries ≡ entries_after self.old.leases self.old.entries (Binds c) }
+        ensures state { let s = state_of self.old.entries in state_of self.new.entries ≡ state_after s (step self.old.leases s (Binds c)) }
         ensures lines { lines_of self.new.entries ≡ lines_of self.old.entries }
         ensures leases { self.new.leases ≡ self.old.leases }
         ensures spare { self.old.spare ≤ self.new.spare + 1 }
@@ -124,6 +127,7 @@ impl Registry {
         requires room { 0 < self.old.spare }
         requires bound { IsSome (state_of self.old.entries).bound }
         ensures entries { self.new.entries ≡ entries_after self.old.leases self.old.entries (Plans begin last at) }
+        ensures state { let s = state_of self.old.entries in state_of self.new.entries ≡ state_after s (step self.old.leases s (Plans begin last at)) }
         ensures lines { lines_of self.new.entries ≡ lines_of self.old.entries }
         ensures leases { self.new.leases ≡ self.old.leases }
         ensures spare { self.old.spare ≤ self.new.spare + 1 }
@@ -136,6 +140,7 @@ impl Registry {
         requires room { 0 < self.old.spare }
         requires bound { (state_of self.old.entries).bound ≡ Some c }
         ensures entries { self.new.entries ≡ entries_after self.old.leases self.old.entries (Leaves c) }
+        ensures state { let s = state_of self.old.entries in state_of self.new.entries ≡ state_after s (step self.old.leases s (Leaves c)) }
         ensures lines { lines_of self.new.entries ≡ lines_of self.old.entries }
         ensures leases { self.new.leases ≡ self.old.leases }
         ensures spare { self.old.spare ≤ self.new.spare + 1 }
@@ -150,6 +155,7 @@ impl Registry {
         requires bound { IsTrue (is_bind (state_of self.old.entries).latest) }
         requires left { series_of (state_of self.old.entries) < u32.MAX }
         ensures entries { self.new.entries ≡ entries_after self.old.leases self.old.entries Resets }
+        ensures state { let s = state_of self.old.entries in state_of self.new.entries ≡ state_after s (step self.old.leases s Resets) }
         ensures lines { lines_of self.new.entries ≡ lines_of self.old.entries }
         ensures series { result ≡ series_of (state_of self.old.entries) + 1 }
         ensures leases { self.new.leases ≡ self.old.leases }
@@ -165,6 +171,7 @@ impl Registry {
         requires room { 0 < self.old.spare }
         requires reserved { IsSome (state_of self.old.entries).reserved }
         ensures entries { self.new.entries ≡ entries_after self.old.leases self.old.entries Lapses }
+        ensures state { let s = state_of self.old.entries in state_of self.new.entries ≡ state_after s (step self.old.leases s Lapses) }
         ensures lines { lines_of self.new.entries ≡ lines_of self.old.entries }
         ensures leases { self.new.leases ≡ self.old.leases }
         ensures spare { self.old.spare ≤ self.new.spare + 1 }
@@ -178,6 +185,7 @@ impl Registry {
         requires room { 0 < self.old.spare }
         requires library { IsLibrary library }
         ensures entries { self.new.entries ≡ entries_after self.old.leases self.old.entries (Requests library nr from) }
+        ensures state { let s = state_of self.old.entries in state_of self.new.entries ≡ state_after s (step self.old.leases s (Requests library nr from)) }
         ensures lines { lines_of self.new.entries ≡ lines_after_reply (lines_of self.old.entries) library result }
         ensures reply { result ≡ reply_to self.old.leases (state_of self.old.entries) library from }
         ensures leases { self.new.leases ≡ self.old.leases }
@@ -207,6 +215,7 @@ impl Registry {
         requires showable { IsShowable (lines_of self.old.entries) w }
         ensures entries { self.new.entries ≡ entries_after_hold until (entries_after_word self.old.entries w) }
         ensures lines { lines_of self.new.entries ≡ raised (lines_of self.old.entries) w }
+        ensures logs { SentMore result.sends (state_of self.old.entries) (state_of self.new.entries) }
         ensures first { result.first ≡ sent_in_series (state_of self.old.entries) + 1 }
         ensures sends { result.sends ≡ (if raises (lines_of self.old.entries) w then missing_sends (lines_of self.old.entries) w else 0) }
         ensures ended { result.ended ≡ (raises (lines_of self.old.entries) w && is_released w.standing) }
@@ -237,6 +246,7 @@ impl Registry {
         requires can_time_out { CanTimeOut (lines_of self.old.entries) old }
         ensures entries { self.new.entries ≡ entries_after_timeout old.standing (entries_after_hold until (entries_after_word self.old.entries old)) }
         ensures lines { lines_of self.new.entries ≡ taken_back old.standing (raised (lines_of self.old.entries) old) }
+        ensures logs { SentMore result.sends (state_of self.old.entries) (state_of self.new.entries) }
         ensures first { result.first ≡ sent_in_series (state_of self.old.entries) + 1 }
         ensures sends { result.sends ≡ missing_sends (lines_of self.old.entries) old }
         ensures ended { IsTrue result.ended }

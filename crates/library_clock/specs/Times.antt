@@ -9,6 +9,10 @@ abbrev pub is_due : ℕ → Option ℕ → Bool
 is_due moment (Some at) = nat_le at moment
 is_due moment None = false
 
+-- the deadline of a session, if it has one
+abbrev pub deadline_of : List (Option ℕ) → ℕ → Option ℕ
+deadline_of deadlines s = slice_index_or deadlines s None
+
 -- by moment, and then by session
 abbrev pub pair_cmp : ℕ × ℕ → ℕ × ℕ → Ordering
 pair_cmp a b = ordering_then (nat_cmp a.0 b.0) (nat_cmp a.1 b.1)

@@ -1,6 +1,6 @@
-ghost use Rattle.std.specs.Prelude.{◌≡◌, ℕ, ◌<◌, ◌≤◌, ◌&&◌, ◌||◌, not, true, IfOk, OnOk, OnErr, IfSome, IfNone, IsOk, None, length, replicate, slice_set, position};
+ghost use Rattle.std.specs.Prelude.{◌≡◌, ◌≢◌, ℕ, ◌<◌, ◌≤◌, ◌&&◌, ◌||◌, not, true, false, IfOk, IsTrue, OnOk, OnErr, IfSome, IfNone, IsOk, None, length, replicate, slice_set, position};
 ghost use Rattle.std.specs.BTreeSet.{contains};
-ghost use Rattle.library_clock.specs.Times.{is_due, is_pair_of, pair_cmp};
+ghost use Rattle.library_clock.specs.Times.{is_due, deadline_of, is_pair_of, pair_cmp};
 
 use gate_io::NoMemory;
 use std::alloc::Global;
@@ -30,7 +30,9 @@ impl Model for Deadlines {
 impl Deadlines {
     /// No session has a deadline.
     pub fn new(alloc: Global, sessions: u16) -> Result<Deadlines, NoMemory>
-        ensures { IfOk result (λ deadlines. deadlines ≡ replicate sessions None) }
+        ensures list { IfOk result (λ deadlines. deadlines ≡ replicate sessions None) }
+        ensures sessions { IfOk result (λ deadlines. length deadlines ≡ sessions) }
+        ensures none { IfOk result (λ deadlines. (s : ℕ) → deadline_of deadlines s ≡ None) }
     {
         Ok(Deadlines {
             at: vec![in alloc; None; usize::from(sessions)]?,
@@ -38,13 +40,17 @@ impl Deadlines {
         })
     }
 
-    /// Sets a session's deadline, or takes it away. Taking it away needs no memory.
-    pub fn set(&mut self, _alloc: Global, s: u16, at: Option<u64>) -> Result<(), NoMemory>
+    /// Sets a session's deadline, or takes it away. Taking it away needs no memory, nor does setting
+    /// the one that stands.
+    pub fn set(&mut self, s: u16, at: Option<u64>) -> Result<(), NoMemory>
         requires { s < length self.old }
         ensures ok { OnOk result (self.new ≡ slice_set self.old s at) }
         ensures err { OnErr result (self.new ≡ self.old) }
+        ensures deadline { OnOk result (deadline_of self.new s ≡ at) }
+        ensures others { (k : ℕ) → k ≢ s → deadline_of self.new k ≡ deadline_of self.old k }
         ensures sessions { length self.new ≡ length self.old }
         ensures away { at ≡ None → IsOk result }
+        ensures stands { deadline_of self.old s ≡ at → IsOk result }
     {
         let place = usize::from(s);
         let old = self.at[place];
@@ -63,6 +69,14 @@ impl Deadlines {
         ensures taken { IfSome result (λ s. self.new ≡ slice_set self.old s None) }
         ensures none { IfNone result (self.new ≡ self.old) }
         ensures sessions { length self.new ≡ length self.old }
+
+        // The same told by session: whose deadline has come, and what becomes of each.
+        ensures within { IfSome result (λ s. s < length self.old) }
+        ensures due { IfSome result (λ s. IsTrue (is_due moment (deadline_of self.old s))) }
+        ensures before { IfSome result (λ s. (k : ℕ) → k < s → is_due moment (deadline_of self.old k) ≡ false) }
+        ensures away { IfSome result (λ s. deadline_of self.new s ≡ None) }
+        ensures others { IfSome result (λ s. (k : ℕ) → k ≢ s → deadline_of self.new k ≡ deadline_of self.old k) }
+        ensures none_due { IfNone result ((k : ℕ) → is_due moment (deadline_of self.old k) ≡ false) }
     {
         let s = least_due(&self.by_moment, moment)?;
         let at = self.at[usize::from(s)].take();

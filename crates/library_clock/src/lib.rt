@@ -6,10 +6,6 @@
 
 mod deadlines;
 mod kept;
-#[cfg(test)]
-mod plain;
-#[cfg(test)]
-mod tests;
 mod watch;
 
 pub use deadlines::Deadlines;

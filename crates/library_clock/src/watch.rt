@@ -1,5 +1,5 @@
-ghost use Rattle.std.specs.Prelude.{◌≡◌, ◌≢◌, ◌+◌, ◌-◌, ◌≤◌, ◌↔◌, IfOk, IfSome, IsSome, length, replicate, slice_set};
-ghost use Rattle.library_clock.specs.Watched.{kept_of};
+ghost use Rattle.std.specs.Prelude.{◌≡◌, ◌≢◌, ℕ, ◌+◌, ◌-◌, ◌≤◌, ◌↔◌, IfOk, IfSome, IsSome, length, replicate, slice_set};
+ghost use Rattle.library_clock.specs.Watched.{kept_of, kept_after};
 
 use super::kept::Kept;
 use gate_io::NoMemory;
@@ -33,7 +33,9 @@ impl Model for Watch {
 impl Watch {
     /// Beat 0 is kept of each library, seen first at this moment.
     pub fn new(alloc: Global, libraries: u8, timeout: u64, moment: u64) -> Result<Watch, NoMemory>
-        ensures { IfOk result (λ watch. watch ≡ record { timeout = timeout; kept = replicate libraries (record { beat = 0; since = moment }) }) }
+        ensures watch { IfOk result (λ watch. watch ≡ record { timeout = timeout; kept = replicate libraries (record { beat = 0; since = moment }) }) }
+        ensures libraries { IfOk result (λ watch. length watch.kept ≡ libraries) }
+        ensures kept { IfOk result (λ watch. (library : ℕ) → 1 ≤ library → library ≤ libraries → kept_of watch library ≡ record { beat = 0; since = moment }) }
     {
         let kept = Kept {
             beat: 0,
@@ -59,6 +61,9 @@ impl Watch {
         ensures moved { beat ≢ (kept_of self.old library).beat
             → self.new ≡ record self.old { kept = slice_set self.old.kept (library - 1) (record { beat = beat; since = moment }) } }
         ensures libraries { length self.new.kept ≡ length self.old.kept }
+        ensures timeout { self.new.timeout ≡ self.old.timeout }
+        ensures kept { kept_of self.new library ≡ kept_after (kept_of self.old library) beat moment }
+        ensures others { (other : ℕ) → 1 ≤ other → other ≢ library → kept_of self.new other ≡ kept_of self.old other }
         ensures stands { beat ≡ (kept_of self.old library).beat → self.new ≡ self.old }
     {
         let place = usize::from(library - 1);

@@ -3,6 +3,7 @@ use Rattle.lease_core.specs.declared.event.Event.TheVariants.{Arrives}
 use Rattle.lease_core.specs.Kept.{Kept}
 use Rattle.lease_core.specs.Lines.{lines_of}
 use Rattle.lease_core.proofs.LinesAfter.{lines-push}
+use Rattle.lease_core.proofs.Pushed.{state_of-push}
 use Rattle.lease_core.proofs.Settled.{next_by, settled_by}
 use Rattle.lease_core.proofs.registry.Registry.arrive.Goals as goal
 
@@ -14,3 +15,6 @@ invariant_of-self c = rw c.push.ensures.entries (settled_by _ _ refl)
 
 pub returns-clause-lines : goal.returns-clause-lines
 returns-clause-lines c = ap lines_of c.push.ensures.entries ∙ lines-push c.self.inside.journal.entries _ ∙ ap (λ (k : Kept). lines_of k.entries) c.self.view_is
+
+pub returns-clause-state : goal.returns-clause-state
+returns-clause-state c = rw (c.push.ensures.entries, c.totals.ensures.totals, ← c.self.view_is) (state_of-push c.self.inside.journal.entries _)

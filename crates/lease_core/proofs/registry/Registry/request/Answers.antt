@@ -5,6 +5,7 @@ use Rattle.lease_core.specs.Steps.{reply_to}
 use Rattle.lease_core.specs.Kept.{Kept}
 use Rattle.lease_core.specs.Lines.{lines_of, lines_after, lines_after_reply}
 use Rattle.lease_core.proofs.LinesAfter.{lines-push, lines-request}
+use Rattle.lease_core.proofs.Pushed.{state_of-push}
 use Rattle.lease_core.proofs.Settled.{next_request, settled_by, settled_request}
 use Rattle.lease_core.proofs.Causes.{when_granted, when_owned, when_reserved, when_spent, when_missing}
 use Rattle.lease_core.proofs.registry.Registry.request.Goals as goal
@@ -39,3 +40,6 @@ returns-clause-lines c =
     ∙ ap (lines_after (lines_of c.self.inside.journal.entries)) c.entry_with.ensures
     ∙ lines-request (lines_of c.self.inside.journal.entries) c.args.library c.args.nr c.args.from c.reply-reply.result
     ∙ ap (λ (k : Kept). lines_after_reply (lines_of k.entries) c.args.library c.reply-reply.result) c.self.view_is
+
+pub returns-clause-state : goal.returns-clause-state
+returns-clause-state c = rw (c.push.ensures.entries, c.entry_with.ensures, c.reply-reply.ensures, ← c.self.view_is) (state_of-push c.self.inside.journal.entries _)

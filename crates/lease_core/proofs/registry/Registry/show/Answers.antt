@@ -1,13 +1,14 @@
 -- the word is news exactly where a library has the session
-use Rattle.std.proofs.Common.{◌≡◌, ◌-◌, ◌+◌, ◌<◌, ◌≤◌, false, true, Bool, cond, ◌&&◌, ℕ, ap, sym, ◌∙◌, subst, arith}
+use Rattle.std.proofs.Common.{◌≡◌, ◌-◌, ◌+◌, ◌<◌, ◌≤◌, false, true, cond, ◌&&◌, length, ap, sym, ◌∙◌, subst, arith}
 use Rattle.lease_core.specs.declared.totals.Totals.{Totals}
-use Rattle.lease_core.specs.State.{state_of, last_lease, owner_in, owner_of}
+use Rattle.lease_core.specs.State.{state_of, SentMore, last_lease, owner_in, owner_of}
 use Rattle.lease_core.specs.Runs.{owes_hold}
 use Rattle.lease_core.specs.Lines.{lines_of, raises, missing_sends, is_released, entries_after_hold, entries_after_standing, entries_after_sends, news_count}
 use Rattle.lease_core.specs.Steps.{IsActive}
 use Rattle.lease_core.specs.Kept.{Kept, IsCurrent}
 use Rattle.lease_core.proofs.GivenBack.{nothing_new, extended_by, still_active, raises_owned, raises_free}
 use Rattle.lease_core.proofs.LinesAfter.{current_of, missing-lines}
+use Rattle.lease_core.proofs.SentMore.{none_sent, shows_more}
 use Rattle.lease_core.proofs.WordsShown.{lines-shown}
 use Rattle.lease_core.proofs.registry.Registry.show.Goals as goal
 
@@ -78,3 +79,16 @@ returns-clause-ended c =
     let active : IsActive (state_of entries) = subst (λ (k : Kept). 0 < owner_of (state_of k.entries)) c.self.view_is (subst (λ (t : Totals). 0 < owner_in t.lease.ending t.lease.library) c.totals.ensures.totals (omega (arith, c.owner.ensures, c.if-owner-eq0.false))) in
     let owned = raises_owned entries c.args.w (current_of entries c.args.w c.requires.showable) active in
     c.record.ensures.ended ∙ sym (ap (λ b. b && is_released c.args.w.standing) owned)
+
+pub returns-clause-logs : goal.returns-clause-logs
+returns-clause-logs c =
+    let entries = c.args.self.now.entries in
+    let some : 0 < length (state_of c.self.inside.journal.entries).series = subst (λ (t : Totals). 0 < t.series) c.totals.ensures.totals c.totals.ensures.series in
+    let some_there = subst (λ (k : Kept). 0 < length (state_of k.entries).series) c.self.view_is some in
+    let count = ap (λ (t : Totals). c.args.w.count - t.lease.sends) c.totals.ensures.totals ∙ ap (λ (k : Kept). news_count k.entries c.args.w) c.self.view_is in
+    let new = c.record.ensures.entries ∙ ap (λ (k : Kept). entries_after_hold c.args.until (entries_after_standing c.args.w.standing c.args.w.owner (entries_after_sends (news_count k.entries c.args.w) k.entries))) c.self.view_is in
+    subst (λ n. SentMore n (state_of entries) (state_of c.record.new.self.entries)) (sym count)
+      (subst (λ es. SentMore (news_count entries c.args.w) (state_of entries) (state_of es)) (sym new) (shows_more (news_count entries c.args.w) c.args.w.owner c.args.until c.args.w.standing entries some_there))
+
+pub returns-then-owner-eq0-clause-logs : goal.returns-then-owner-eq0-clause-logs
+returns-then-owner-eq0-clause-logs c = none_sent (state_of c.args.self.now.entries)

@@ -5,10 +5,11 @@ use Rattle.lease_core.specs.declared.entry.Entry.{Entry}
 use Rattle.lease_core.specs.declared.word.Standing.{Standing}
 use Rattle.lease_core.specs.declared.word.Standing.TheVariants.{Active, Released, Revoked}
 use Rattle.lease_core.specs.declared.word.Word.{Word}
-use Rattle.lease_core.specs.State.{state_of, owner_of}
+use Rattle.lease_core.specs.State.{state_of, SentMore, owner_of}
 use Rattle.lease_core.specs.Lines.{lines_of, raises, raised, taken_back, is_released}
 use Rattle.lease_core.proofs.GivenBack.{raises_owned}
 use Rattle.lease_core.proofs.LinesAfter.{current_of, active_of}
+use Rattle.lease_core.proofs.SentMore.{more_timed_out}
 use Rattle.lease_core.proofs.WordsShown.{lines-timed_out}
 use Rattle.lease_core.specs.Steps.{IsActive}
 use Rattle.lease_core.specs.Kept.{Kept, IsCurrent}
@@ -41,3 +42,9 @@ returns-then-not-shown-clause-lines c =
     ∙ ap (λ (k : Kept). taken_back Active (lines_of k.entries)) c.self.view_is
     ∙ ap (taken_back Active) c.show-shown.ensures.lines
     ∙ ap (λ t. taken_back t (raised (lines_of c.args.self.now.entries) c.args.old)) (sym is)
+
+pub returns-then-not-shown-clause-logs : goal.returns-then-not-shown-clause-logs
+returns-then-not-shown-clause-logs c =
+    subst (λ es. SentMore c.show-shown.result.sends (state_of c.args.self.now.entries) (state_of es)) (sym c.time_out.ensures.entries)
+      (more_timed_out c.show-shown.result.sends (state_of c.args.self.now.entries) c.self.inside.journal.entries
+        (subst (λ (k : Kept). SentMore c.show-shown.result.sends (state_of c.args.self.now.entries) (state_of k.entries)) (sym c.self.view_is) c.show-shown.ensures.logs))

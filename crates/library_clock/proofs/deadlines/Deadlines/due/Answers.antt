@@ -14,3 +14,13 @@ returns-clause-least c =
     let due = c.in_ok-s.ensures.due in
     let first = first_due c.self.inside.at.items c.self.inside.by_moment c.self.invariant c.args.moment c.in_ok-s.s due.0 due.1 due.2 c.in_ok-s.ensures.least in
     rw (← c.self.view_is) (sym (position-at (is_due c.args.moment) c.self.inside.at.items c.in_ok-s.s None first.0 first.1 first.2))
+
+pub returns-in_err-s-clause-none_due : goal.returns-in_err-s-clause-none_due
+returns-in_err-s-clause-none_due c =
+    rw (c.from_residual.ensures, ← c.self.view_is) (none_due c.self.inside.at.items c.self.inside.by_moment c.self.invariant c.args.moment c.in_err-s.ensures.none)
+
+pub returns-clause-before : goal.returns-clause-before
+returns-clause-before c =
+    let due = c.in_ok-s.ensures.due in
+    let first = first_due c.self.inside.at.items c.self.inside.by_moment c.self.invariant c.args.moment c.in_ok-s.s due.0 due.1 due.2 c.in_ok-s.ensures.least in
+    rw (← c.self.view_is) first.2
