@@ -46,7 +46,7 @@ ending_after Active owner library ending = ending
 ending_after Revoked owner library ending = ending
 
 abbrev lease_after : Standing → ℕ → ℕ → Lease → Lease
-lease_after standing owner n l = record { library = l.library; from = l.from; start = l.start; sends = l.sends + n; ending = ending_after standing owner l.library l.ending }
+lease_after standing owner n l = record l { sends = l.sends + n; ending = ending_after standing owner l.library l.ending }
 
 leases-given_back : (standing : Standing) (owner n : ℕ) (entries : List Entry) → 0 < length (state_of entries).leases → (state_of (entries_after_standing standing owner (entries_after_sends n entries))).leases ≡ with_last (lease_after standing owner n) (state_of entries).leases
 leases-given_back Active owner n entries some = leases-with_sends n entries

@@ -115,7 +115,7 @@ ending_by Released owner library ending = GivenBack (heir_named owner library)
 ending_by _ owner library ending = ending
 
 abbrev pub raised_line : Word → Line → Line
-raised_line w l = record { library = l.library; sends = w.count; ending = ending_by w.standing w.owner l.library l.ending }
+raised_line w l = record l { sends = w.count; ending = ending_by w.standing w.owner l.library l.ending }
 
 -- the word names the last line, that one is active, and the word's count isn't below its sends
 abbrev pub raises : List Line → Word → Bool

@@ -100,6 +100,7 @@ impl Registry {
         ensures entries { self.new.entries ≡ entries_after self.old.leases self.old.entries AdminSent }
         ensures state { let s = state_of self.old.entries in state_of self.new.entries ≡ state_after s (step self.old.leases s AdminSent) }
         ensures lines { lines_of self.new.entries ≡ lines_of self.old.entries }
+        ensures logs { SentMore 1 (state_of self.old.entries) (state_of self.new.entries) }
         ensures number { result ≡ sent_in_series (state_of self.old.entries) + 1 }
         ensures leases { self.new.leases ≡ self.old.leases }
         ensures spare { self.old.spare ≤ self.new.spare + 1 }
@@ -157,6 +158,9 @@ impl Registry {
         ensures entries { self.new.entries ≡ entries_after self.old.leases self.old.entries Resets }
         ensures state { let s = state_of self.old.entries in state_of self.new.entries ≡ state_after s (step self.old.leases s Resets) }
         ensures lines { lines_of self.new.entries ≡ lines_of self.old.entries }
+        ensures present { series_of (state_of self.new.entries) ≡ result }
+        ensures none_sent { sent_in_series (state_of self.new.entries) ≡ 0 }
+        ensures all { sent_in_all (state_of self.new.entries) ≡ sent_in_all (state_of self.old.entries) }
         ensures series { result ≡ series_of (state_of self.old.entries) + 1 }
         ensures leases { self.new.leases ≡ self.old.leases }
         ensures spare { self.old.spare ≤ self.new.spare + 1 }
@@ -187,6 +191,7 @@ impl Registry {
         ensures entries { self.new.entries ≡ entries_after self.old.leases self.old.entries (Requests library nr from) }
         ensures state { let s = state_of self.old.entries in state_of self.new.entries ≡ state_after s (step self.old.leases s (Requests library nr from)) }
         ensures lines { lines_of self.new.entries ≡ lines_after_reply (lines_of self.old.entries) library result }
+        ensures logs { SentMore 0 (state_of self.old.entries) (state_of self.new.entries) }
         ensures reply { result ≡ reply_to self.old.leases (state_of self.old.entries) library from }
         ensures leases { self.new.leases ≡ self.old.leases }
         ensures spare { self.old.spare ≤ self.new.spare + 1 }

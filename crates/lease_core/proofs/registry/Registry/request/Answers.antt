@@ -6,6 +6,7 @@ use Rattle.lease_core.specs.Kept.{Kept}
 use Rattle.lease_core.specs.Lines.{lines_of, lines_after, lines_after_reply}
 use Rattle.lease_core.proofs.LinesAfter.{lines-push, lines-request}
 use Rattle.lease_core.proofs.Pushed.{state_of-push}
+use Rattle.lease_core.proofs.SentMore.{none_by_request}
 use Rattle.lease_core.proofs.Settled.{next_request, settled_by, settled_request}
 use Rattle.lease_core.proofs.Causes.{when_granted, when_owned, when_reserved, when_spent, when_missing}
 use Rattle.lease_core.proofs.registry.Registry.request.Goals as goal
@@ -43,3 +44,6 @@ returns-clause-lines c =
 
 pub returns-clause-state : goal.returns-clause-state
 returns-clause-state c = rw (c.push.ensures.entries, c.entry_with.ensures, c.reply-reply.ensures, ← c.self.view_is) (state_of-push c.self.inside.journal.entries _)
+
+pub returns-clause-logs : goal.returns-clause-logs
+returns-clause-logs c = rw (c.push.ensures.entries, c.entry_with.ensures, ← c.self.view_is, state_of-push) (none_by_request (state_of c.self.inside.journal.entries) c.args.library c.args.nr c.args.from c.reply-reply.result)

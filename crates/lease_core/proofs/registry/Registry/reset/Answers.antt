@@ -1,11 +1,12 @@
-use Rattle.std.proofs.Common.{refl, subst, sym, IsTrue, ap, ◌∙◌}
-use Rattle.lease_core.specs.State.{state_of}
+use Rattle.std.proofs.Common.{◌+◌, refl, subst, sym, IsTrue, ap, ◌∙◌}
+use Rattle.lease_core.specs.State.{state_of, series_of}
 use Rattle.lease_core.specs.Kept.{Kept}
 use Rattle.lease_core.specs.Runs.{is_bind}
 use Rattle.lease_core.specs.declared.event.Event.TheVariants.{Resets}
 use Rattle.lease_core.specs.Lines.{lines_of}
 use Rattle.lease_core.proofs.LinesAfter.{lines-push}
 use Rattle.lease_core.proofs.Pushed.{state_of-push}
+use Rattle.lease_core.proofs.SentMore.{series_reset, number_reset, all_reset}
 use Rattle.lease_core.proofs.Settled.{next_by, settled_by}
 use Rattle.lease_core.proofs.registry.Registry.reset.Goals as goal
 
@@ -22,3 +23,12 @@ returns-clause-lines c = ap lines_of c.push.ensures.entries ∙ lines-push c.sel
 
 pub returns-clause-state : goal.returns-clause-state
 returns-clause-state c = rw (c.push.ensures.entries, c.totals.ensures.totals, ← c.self.view_is) (state_of-push c.self.inside.journal.entries _)
+
+pub returns-clause-present : goal.returns-clause-present
+returns-clause-present c = rw (c.push.ensures.entries, state_of-push, c.totals.ensures.totals) (series_reset (state_of c.self.inside.journal.entries) (series_of (state_of c.self.inside.journal.entries) + 1))
+
+pub returns-clause-none_sent : goal.returns-clause-none_sent
+returns-clause-none_sent c = rw (c.push.ensures.entries, state_of-push) (number_reset (state_of c.self.inside.journal.entries) (c.totals.result.now.series + 1))
+
+pub returns-clause-all : goal.returns-clause-all
+returns-clause-all c = rw (c.push.ensures.entries, ← c.self.view_is, state_of-push) (all_reset (state_of c.self.inside.journal.entries) (c.totals.result.now.series + 1))
