@@ -1,0 +1,244 @@
+//! The registry against the plain program, over generated calls.
+use crate::acts::{Act, Answer, play};
+use crate::draw::Draw;
+use crate::plain::{GiveUp, lines_of, state_of, step, word_of};
+use lease_core::{Entry, Event, Registry, Reply, Shown, Standing, Why, Word};
+use std::alloc::Global;
+use std::process::Abort;
+use std::test::Fail;
+
+fn draw_standing(draw: &mut Draw) -> Standing {
+    match draw.below(6) {
+        0 | 1 | 2 => Standing::Released,
+        3 => Standing::Revoked,
+        _ => Standing::Active,
+    }
+}
+
+/// The registry and the plain program, which get the same calls.
+#[derive(Drop)]
+pub struct Both {
+    alloc: Global,
+    limit: u32,
+    pub registry: Registry,
+    pub entries: Vec<Entry>,
+}
+
+impl Both {
+    pub fn new(alloc: Global, limit: u32) -> Result<Both, GiveUp> {
+        Ok(Both {
+            alloc,
+            limit,
+            registry: Registry::new(alloc, limit)?,
+            entries: Vec::new(alloc),
+        })
+    }
+
+    /// The plain program's entry of an event.
+    fn happens(&mut self, event: Event) -> Result<Entry, GiveUp> {
+        let state = state_of(self.alloc, &self.entries)?;
+        let entry = step(self.limit, &state, event)?;
+        self.entries.push(entry)?;
+        Ok(entry)
+    }
+
+    /// The plain program's entries of a word, and whether it shows an end.
+    fn is_shown(&mut self, w: Word, until: u64) -> Result<Shown, GiveUp> {
+        let state = state_of(self.alloc, &self.entries)?;
+        let first = state.next_number()?;
+        if !state.is_active() {
+            return Ok(Shown {
+                first,
+                sends: 0,
+                ended: false,
+            });
+        }
+        let sends = state.missing(w);
+        for _ in 0..sends {
+            self.happens(Event::Sends)?;
+        }
+        let ended = w.standing == Standing::Released;
+        if ended {
+            let heir = if w.owner == state.owner() { 0 } else { w.owner };
+            self.happens(Event::Releases { heir })?;
+            if heir > 0 {
+                self.happens(Event::Holds { until })?;
+            }
+        }
+        Ok(Shown {
+            first,
+            sends,
+            ended,
+        })
+    }
+
+    /// What the plain program answers to a lawful call.
+    fn expected(&mut self, act: Act) -> Result<Answer, GiveUp> {
+        let event = match act {
+            Act::Arrive => Event::Arrives,
+            Act::Admin => Event::AdminSent,
+            Act::Bind(c) => Event::Binds { c },
+            Act::Plan(begin, last, at) => Event::Plans { begin, last, at },
+            Act::Leave(c) => Event::Leaves { c },
+            Act::Restart(c) => {
+                self.happens(Event::Binds { c })?;
+                Event::Resets
+            }
+            Act::Request(library, nr, from) => Event::Requests { library, nr, from },
+            Act::Lapse => Event::Lapses,
+            Act::Show(w, until) => return Ok(Answer::Of(self.is_shown(w, until)?)),
+            Act::Timeout(w, until) => {
+                let shown = self.is_shown(w, until)?;
+                if !shown.ended {
+                    self.happens(Event::TimesOut)?;
+                }
+                return Ok(Answer::Of(Shown {
+                    ended: true,
+                    ..shown
+                }));
+            }
+        };
+        Ok(match self.happens(event)? {
+            Entry::Arrive { pos } => Answer::Place(pos),
+            Entry::Admin { number } => Answer::Place(number),
+            Entry::Reset { series } => Answer::Series(series),
+            Entry::Granted { lease, start, .. } => Answer::To(Reply::Granted { lease, start }),
+            Entry::Refused { why, .. } => Answer::To(Reply::Refused(why)),
+            _ => Answer::Done,
+        })
+    }
+
+    pub fn play(&mut self, rt: &impl Abort, act: Act) -> Result<(), GiveUp> {
+        let got = play(&mut self.registry, act)?;
+        if got == Answer::Unlawful {
+            return Ok(());
+        }
+        let want = self.expected(act)?;
+        assert_eq!(rt; got, want, "{act:?}");
+        self.compare(rt)
+    }
+
+    fn compare(&self, rt: &impl Abort) -> Result<(), GiveUp> {
+        let registry = &self.registry;
+        let state = state_of(self.alloc, &self.entries)?;
+        let lines = lines_of(self.alloc, &self.entries)?;
+        assert_eq!(rt; registry.entries(), self.entries.as_slice());
+        assert_eq!(rt; registry.holdings(), state.holdings());
+        assert_eq!(rt; registry.owner().0, state.owner());
+        assert_eq!(rt; registry.owner().1 as usize, lines.len());
+        assert_eq!(rt; registry.reserved(), state.reserved());
+        assert_eq!(rt; registry.bound(), state.bound());
+        assert_eq!(rt; registry.series().0 as usize, state.series().len());
+        assert_eq!(rt;
+            registry.series().1.checked_add(1),
+            state.next_number().ok()
+        );
+        assert_eq!(rt; registry.in_len(), state.inbound());
+        assert_eq!(rt; registry.word(), word_of(&lines)?);
+        Ok(())
+    }
+
+    /// A call, drawn: mostly a lawful one.
+    pub fn draw_act(&mut self, draw: &mut Draw) -> Act {
+        let word = self.registry.word();
+        match draw.below(30) {
+            0 => Act::Bind(draw.below(3)),
+            1 => Act::Leave(draw.below(3)),
+            2 => Act::Plan(draw.place(), draw.place(), draw.place()),
+            3 => Act::Restart(draw.below(3)),
+            4 | 5 => Act::Admin,
+            6 | 7 => Act::Lapse,
+            8..=12 => Act::Arrive,
+            13..=20 => Act::Request(draw.library(), draw.below(9), draw.place()),
+            21..=23 => Act::Timeout(draw_word(draw, word), draw.place()),
+            _ => Act::Show(draw_word(draw, word), draw.place()),
+        }
+    }
+}
+
+/// A word that may come next.
+fn draw_word(draw: &mut Draw, word: Word) -> Word {
+    let owner = match draw.below(3) {
+        0 => draw.library(),
+        _ => word.owner,
+    };
+    Word {
+        owner,
+        standing: draw_standing(draw),
+        count: word.count.saturating_add(draw.below(4)),
+        ..word
+    }
+}
+
+#[test]
+fn generated_calls_are_answered_alike(rt: HostRuntime) -> Result<(), Fail> {
+    let mut draw = Draw::new(2026);
+    let mut kinds = Kinds::default();
+    for _ in 0..300u32 {
+        let limit = 1 + draw.below(6);
+        let mut both = Both::new(rt.alloc(), limit)?;
+        for _ in 0..70u32 {
+            let act = both.draw_act(&mut draw);
+            both.play(&rt, act)?;
+        }
+        for entry in &both.entries {
+            kinds.note(*entry);
+        }
+    }
+    assert!(rt; kinds.all_seen(), "{kinds:?}");
+    Ok(())
+}
+
+/// Which of the rarer entries were made.
+#[derive(Clone, Copy, Debug, Default)]
+struct Kinds {
+    granted: bool,
+    other_owner: bool,
+    reserved: bool,
+    spent: bool,
+    missing: bool,
+    sent: bool,
+    released: bool,
+    handed: bool,
+    timed_out: bool,
+    lapsed: bool,
+    reset: bool,
+    planned: bool,
+}
+
+impl Kinds {
+    fn note(&mut self, entry: Entry) {
+        match entry {
+            Entry::Granted { .. } => self.granted = true,
+            Entry::Refused { why, .. } => self.note_why(why),
+            Entry::Send { .. } => self.sent = true,
+            Entry::Release { heir: 0, .. } => self.released = true,
+            Entry::Release { .. } => self.handed = true,
+            Entry::Timeout { .. } => self.timed_out = true,
+            Entry::Lapse { .. } => self.lapsed = true,
+            Entry::Reset { .. } => self.reset = true,
+            Entry::Plan { .. } => self.planned = true,
+            _ => {}
+        }
+    }
+
+    fn note_why(&mut self, why: Why) {
+        match why {
+            Why::OtherOwner { .. } => self.other_owner = true,
+            Why::Reserved { .. } => self.reserved = true,
+            Why::LeasesSpent { .. } => self.spent = true,
+            Why::MissingMessages { .. } => self.missing = true,
+            Why::UnknownSession { .. } => {}
+        }
+    }
+
+    fn all_seen(&self) -> bool {
+        let answers = self.granted
+            && self.other_owner
+            && self.reserved
+            && self.spent
+            && self.missing;
+        let ends = self.released && self.handed && self.timed_out && self.lapsed;
+        answers && ends && self.sent && self.reset && self.planned
+    }
+}
