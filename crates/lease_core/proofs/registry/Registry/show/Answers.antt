@@ -88,7 +88,7 @@ returns-clause-logs c =
     let count = ap (λ (t : Totals). c.args.w.count - t.lease.sends) c.totals.ensures.totals ∙ ap (λ (k : Kept). news_count k.entries c.args.w) c.self.view_is in
     let new = c.record.ensures.entries ∙ ap (λ (k : Kept). entries_after_hold c.args.until (entries_after_standing c.args.w.standing c.args.w.owner (entries_after_sends (news_count k.entries c.args.w) k.entries))) c.self.view_is in
     subst (λ n. SentMore n (state_of entries) (state_of c.record.new.self.entries)) (sym count)
-      (subst (λ es. SentMore (news_count entries c.args.w) (state_of entries) (state_of es)) (sym new) (shows_more (news_count entries c.args.w) c.args.w.owner c.args.until c.args.w.standing entries some_there))
+    (subst (λ es. SentMore (news_count entries c.args.w) (state_of entries) (state_of es)) (sym new) (shows_more (news_count entries c.args.w) c.args.w.owner c.args.until c.args.w.standing entries some_there))
 
 pub returns-then-owner-eq0-clause-logs : goal.returns-then-owner-eq0-clause-logs
 returns-then-owner-eq0-clause-logs c = none_sent (state_of c.args.self.now.entries)

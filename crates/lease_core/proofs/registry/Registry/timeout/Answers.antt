@@ -46,5 +46,5 @@ returns-then-not-shown-clause-lines c =
 pub returns-then-not-shown-clause-logs : goal.returns-then-not-shown-clause-logs
 returns-then-not-shown-clause-logs c =
     subst (λ es. SentMore c.show-shown.result.sends (state_of c.args.self.now.entries) (state_of es)) (sym c.time_out.ensures.entries)
-      (more_timed_out c.show-shown.result.sends (state_of c.args.self.now.entries) c.self.inside.journal.entries
-        (subst (λ (k : Kept). SentMore c.show-shown.result.sends (state_of c.args.self.now.entries) (state_of k.entries)) (sym c.self.view_is) c.show-shown.ensures.logs))
+    (more_timed_out c.show-shown.result.sends (state_of c.args.self.now.entries) c.self.inside.journal.entries
+    (subst (λ (k : Kept). SentMore c.show-shown.result.sends (state_of c.args.self.now.entries) (state_of k.entries)) (sym c.self.view_is) c.show-shown.ensures.logs))
