@@ -8,7 +8,7 @@ use Rattle.atomic_table.proofs.Lists.{at_set, at_map, set_else}
 use Rattle.ring_links.specs.declared.view.Pushing.{Pushing}
 use Rattle.ring_links.specs.declared.view.Popping.{Popping}
 use Rattle.ring_links.specs.declared.view.View.{View}
-use Rattle.ring_links.specs.Order.{HeadKnows, Knows, Queue, new_pushing, new_popping, both_view, nobody, tail_part, head_part, both_parts, tail_after_meeting, head_after_meeting, Met, MeetingTells}
+use Rattle.ring_links.specs.Order.{HeadKnows, Knows, Queue, new_pushing, new_popping, both_view, nobody, tail_part, head_part, both_parts, tail_after_meeting, head_after_meeting, HaveMet, MeetingTells}
 use Rattle.ring_links.proofs.Lists.{at_end, prefix_rest, first_prefix}
 use Rattle.ring_links.proofs.Seats.{Seats, off, seats_set}
 
@@ -107,7 +107,7 @@ module _ {T : Type 0} (n id : ℕ) where
 
   module _ (t : Pushing T) (h : Popping T) where
     -- what both ends are told by a load
-    met : (s : Table T) (q : Queue n s) → get_elem? s.views id ≡ some (both_view t h) → h.out ≡ 0 → Met n t h
+    met : (s : Table T) (q : Queue n s) → get_elem? s.views id ≡ some (both_view t h) → h.out ≡ 0 → HaveMet n t h
     met s q at rests =
         let tail = (q.seats id (both_view t h) at).0 refl in
         let head = (q.seats id (both_view t h) at).1 refl in

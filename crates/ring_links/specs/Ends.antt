@@ -11,7 +11,8 @@ pub record TailView (T : Type 0) : Type 0 where
   pub ring : RingId
   -- all that the tail pushed, in order
   pub pushed : List T
-  -- the taken count that it loaded last, and the number of these loads
+  -- The taken count that it loaded last, and the number of these loads. Each push and each call of `room` loads it once; the load of a meeting
+  -- counts for neither end.
   pub taken : ℕ
   pub loads : ℕ
   -- the taken count that a meeting told it
@@ -21,7 +22,7 @@ pub record HeadView (T : Type 0) : Type 0 where
   pub ring : RingId
   -- all that the head popped, in order
   pub popped : List T
-  -- the pushed count that it loaded last, and the number of these loads
+  -- the pushed count that it loaded last, and the number of these loads: one in each pop
   pub pushed : ℕ
   pub loads : ℕ
   -- the items of which a meeting told it and that it hasn't popped, in order

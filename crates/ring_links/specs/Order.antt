@@ -48,9 +48,13 @@ pub record Queue {T : Type 0} (n : ℕ) (s : State (Option T) (View T)) : Type 0
   pub vacant : (p : ℕ) → length log + filling ≤ p → p < taken + n → get_elem? s.homes (p % n) ≡ some (some None)
   pub seats : (j : ℕ) (v : View T) → get_elem? s.views j ≡ some v → Knows log taken filling emptying tail head j v
 
+-- the count at which a pushed count stays
+abbrev pub most_pushed : ℕ
+most_pushed = 18446744073709551615
+
 -- whether a ring with n slots has no room at these counts
 abbrev pub is_full : ℕ → ℕ → ℕ → Bool
-is_full n pushed taken = (pushed == taken + n) || (pushed == 18446744073709551615)
+is_full n pushed taken = (pushed == taken + n) || (pushed == most_pushed)
 
 abbrev pub Seated : Type 0 → Type 0
 Seated T = Me (Option T) (View T)
@@ -77,42 +81,42 @@ module _ {T : Type 0} where
 
   -- a view without its head, and its head alone
   abbrev pub tail_part : View T → View T
-  tail_part v = record { pushes = v.pushes; tail = v.tail; pops = false; head = new_popping }
+  tail_part v = record v { pops = false; head = new_popping }
 
   abbrev pub head_part : View T → View T
-  head_part v = record { pushes = false; tail = new_pushing; pops = v.pops; head = v.head }
+  head_part v = record v { pushes = false; tail = new_pushing }
 
   abbrev pub both_parts : View T → View T → View T
   both_parts v w = both_view v.tail w.head
 
   -- the tail after a load that found r
   abbrev pub tail_after_look : Pushing T → ℕ → Pushing T
-  tail_after_look t r = record { items = t.items; taken = r; loads = t.loads + 1; told = t.told; out = t.out }
+  tail_after_look t r = record t { taken = r; loads = t.loads + 1 }
 
   -- and with a slot out
   abbrev pub tail_after_claim : Pushing T → ℕ → Pushing T
-  tail_after_claim t r = record { items = t.items; taken = r; loads = t.loads + 1; told = t.told; out = 1 }
+  tail_after_claim t r = record t { taken = r; loads = t.loads + 1; out = 1 }
 
   -- and once it gave it back with these items
   abbrev pub tail_after_push : Pushing T → List T → Pushing T
-  tail_after_push t xs = record { items = t.items ++ xs; taken = t.taken; loads = t.loads; told = t.told; out = 0 }
+  tail_after_push t xs = record t { items = t.items ++ xs; out = 0 }
 
   abbrev pub tail_after_meeting : Pushing T → ℕ → Pushing T
-  tail_after_meeting t k = record { items = t.items; taken = t.taken; loads = t.loads; told = k; out = t.out }
+  tail_after_meeting t k = record t { told = k }
 
   -- the head after a load that found r
   abbrev pub head_after_look : Popping T → ℕ → Popping T
-  head_after_look h r = record { items = h.items; pushed = r; loads = h.loads + 1; told = h.told; out = h.out }
+  head_after_look h r = record h { pushed = r; loads = h.loads + 1 }
 
   -- and with the slot of the item x out
   abbrev pub head_after_fetch : Popping T → ℕ → T → Popping T
   head_after_fetch h r x = record { items = h.items ++ x ∷ []; pushed = r; loads = h.loads + 1; told = drop 1 h.told; out = 1 }
 
   abbrev pub head_after_release : Popping T → Popping T
-  head_after_release h = record { items = h.items; pushed = h.pushed; loads = h.loads; told = h.told; out = 0 }
+  head_after_release h = record h { out = 0 }
 
   abbrev pub head_after_meeting : Popping T → List T → Popping T
-  head_after_meeting h xs = record { items = h.items; pushed = h.pushed; loads = h.loads; told = xs; out = h.out }
+  head_after_meeting h xs = record h { told = xs }
 
   -- what the tail learns of the taken count that it found, in a ring with n slots
   pub record TailSaw (n : ℕ) (t : Pushing T) (r : ℕ) : Type 0 where
@@ -128,7 +132,7 @@ module _ {T : Type 0} where
     pub within : r ≤ length h.items + n
 
   -- what both ends know when they meet
-  pub record Met (n : ℕ) (t : Pushing T) (h : Popping T) : Type 0 where
+  pub record HaveMet (n : ℕ) (t : Pushing T) (h : Popping T) : Type 0 where
     pub begins : h.items ++ drop (length h.items) t.items ≡ t.items
     pub taken : t.taken ≤ length h.items
     pub heard : t.told ≤ length h.items
@@ -170,7 +174,7 @@ module _ {T : Type 0} where
   -- the load of a meeting, by a seat that is both ends
   abbrev pub MeetingTells : Step (Option T) → Seated T → ℕ → Seated T → Type 0
   MeetingTells st m r m' =
-      Met st.slots m.0.tail m.0.head
+      HaveMet st.slots m.0.tail m.0.head
       × (m' ≡ (both_view (tail_after_meeting m.0.tail (length m.0.head.items)) (head_after_meeting m.0.head (drop (length m.0.head.items) m.0.tail.items)), []))
 
 -- each of these slots is empty

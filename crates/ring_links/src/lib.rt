@@ -17,6 +17,3 @@ mod view;
 pub use ends::{Head, Tail};
 pub use making::ring;
 pub use queue::{Full, Ring, Room};
-
-#[cfg(test)]
-mod tests;
