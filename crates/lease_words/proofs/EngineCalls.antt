@@ -17,9 +17,9 @@ use Rattle.lease_core.specs.declared.word.Standing.TheVariants.{Active}
 use Rattle.lease_words.specs.Layout.{session_at, lane_at, lease_word, published_word, taken_word, beat_word, lane_of, slot_of}
 use Rattle.lease_words.specs.Leases.{is_running}
 use Rattle.lease_words.specs.Views.{engine_session, with_engine_session, engine_view, last_library, pending, taken_of}
-use Rattle.lease_words.specs.Sees.{looked, revoked, granted, has_published}
+use Rattle.lease_words.specs.Sees.{after_look, after_revoke, after_grant, after_publish}
 use Rattle.lease_words.specs.Rule.{Ruled, IsShape}
-use Rattle.lease_words.specs.Tells.{Seated, LookOf, LookTells, Looked, RevokeOf, RevokeTells, TookBack, GrantOf, GrantTells, HasGranted, FetchOf, FetchTells, VacateTells, PublishOf, PublishTells, ListenTells, EngineNumbers, engine_numbers, numbers_looked}
+use Rattle.lease_words.specs.Tells.{Seated, LookOf, LookTells, HasLooked, RevokeOf, RevokeTells, HasRevoked, GrantOf, GrantTells, HasGranted, FetchOf, FetchTells, VacateTells, PublishOf, PublishTells, ListenTells, EngineNumbers, engine_numbers, numbers_after_look}
 use Rattle.lease_words.specs.Tokens.{engine_row, IsEngine}
 use Rattle.lease_words.proofs.Places.{session-lease_word, session-published_word, session-taken_word, lane-taken_word}
 use Rattle.lease_words.proofs.Looks.{looks_at}
@@ -64,13 +64,13 @@ vacate_step k slots id s library i slot r new me e ls is at place here one most 
     subst (λ (z : Seated × ℕ). Allows (Ruled k) slots id z.0 z.1 (λ _. new) (λ _. VacateTells (step slots z.1 new 0 none) z.0 new)) (λ j. (sym same j, sym at j)) (vacates_at k id e ls s here slots library r new one most taking last makes)
 
 pub look_told : (k : Shape) (slots s i r : ℕ) (me me' : Seated) (e : EngineKnows) (ls : List LibraryKnows) → me ≡ (engine_view k e ls, []) → i ≡ lease_word s → LookTells (step slots i 0 0 none) me r me'
-    → (me' ≡ (engine_view k (with_engine_session e s (looked (engine_session e s) (word_in r))) ls, [])) × Looked k s (engine_session e s) (word_in r) ls
+    → (me' ≡ (engine_view k (with_engine_session e s (after_look (engine_session e s) (word_in r))) ls, [])) × HasLooked k s (engine_session e s) (word_in r) ls
 look_told k slots s i r me me' e ls is at told =
     let same : Rattle.lease_words.specs.Layout.session_at i ≡ s = ap Rattle.lease_words.specs.Layout.session_at at ∙ session-lease_word s in
     subst (λ (z : Seated × ℕ). LookOf z.1 (step slots i 0 0 none) z.0 r me') (λ j. (is j, same j)) told
 
 -- the row of a session that was looked at
-pub row_looked : (es es' : EngineSession) (w : Word) (row row' : EngineRow) → engine_numbers es' ≡ numbers_looked (engine_numbers es) w.count → row ≡ engine_row es
+pub row_looked : (es es' : EngineSession) (w : Word) (row row' : EngineRow) → engine_numbers es' ≡ numbers_after_look (engine_numbers es) w.count → row ≡ engine_row es
     → row'.lease ≡ row.lease → row'.library ≡ row.library → row'.count ≡ w.count → row'.pending ≡ row.pending + (w.count - row.count) → row' ≡ engine_row es'
 row_looked es es' w row row' numbers is lease library count pending_is =
     (λ j. record { lease = lease j; library = library j; count = count j; pending = pending_is j })
@@ -85,7 +85,7 @@ pub record SeesRow (seat seat' : Seat (Option Item) View) (rows : List EngineRow
 
 sees_row : (seat seat' : Seat (Option Item) View) (rows : List EngineRow) (k : Shape) (s depth : ℕ) (w : Word) (row : EngineRow) (es' : EngineSession) → IsEngine seat rows → seat.me.0.shape ≡ k → s < k.sessions → row ≡ get_or rows s row
     → seat'.me ≡ (engine_view k (with_engine_session seat.me.0.knows s es') seat.me.0.libraries, [])
-    → (engine_numbers (engine_session seat.me.0.knows s)).count ≤ w.count → engine_numbers es' ≡ numbers_looked (engine_numbers (engine_session seat.me.0.knows s)) w.count → pending es' ≤ depth → depth ≤ 16
+    → (engine_numbers (engine_session seat.me.0.knows s)).count ≤ w.count → engine_numbers es' ≡ numbers_after_look (engine_numbers (engine_session seat.me.0.knows s)) w.count → pending es' ≤ depth → depth ≤ 16
     → SeesRow seat seat' rows s w row
 sees_row seat seat' rows k s depth w row es' is shape here row_is me more numbers within small =
     let near : s < seat.me.0.shape.sessions = subst (λ (k : Shape). s < k.sessions) (sym shape) here in
@@ -108,18 +108,18 @@ pub look_owes : (seat seat' : Seat (Option Item) View) (rows : List EngineRow) (
 look_owes seat seat' rows k slots s i r w row is shape sizes here at word row_is tells =
     let told = look_told k slots s i r seat.me seat'.me seat.me.0.knows seat.me.0.libraries (engine_rests seat rows k is shape) at tells in
     subst (λ (w : Word). SeesRow seat seat' rows s w row) (sym word)
-    (sees_row seat seat' rows k s k.depth (word_in r) row (looked (engine_session seat.me.0.knows s) (word_in r)) is shape here row_is told.0 told.1.more told.1.numbers told.1.within sizes.depth)
+    (sees_row seat seat' rows k s k.depth (word_in r) row (after_look (engine_session seat.me.0.knows s) (word_in r)) is shape here row_is told.0 told.1.more told.1.numbers told.1.within sizes.depth)
 
 module _ (k : Shape) (slots s i r a : ℕ) (me me' : Seated) (e : EngineKnows) (ls : List LibraryKnows) (is : me ≡ (engine_view k e ls, [])) where
   pub revoke_told : i ≡ lease_word s → RevokeTells (step slots i a 0 none) me r me'
-      → (me' ≡ (engine_view k (with_engine_session e s (revoked (engine_session e s) (word_in r))) ls, [])) × TookBack k s (engine_session e s) (word_in r) ls
+      → (me' ≡ (engine_view k (with_engine_session e s (after_revoke (engine_session e s) (word_in r))) ls, [])) × HasRevoked k s (engine_session e s) (word_in r) ls
   revoke_told at told = let same : session_at i ≡ s = ap session_at at ∙ session-lease_word s in subst (λ (z : Seated × ℕ). RevokeOf z.1 (step slots i a 0 none) z.0 r me') (λ j. (is j, same j)) told
 
   pub grant_told : i ≡ lease_word s → GrantTells (step slots i a 0 none) me r me'
-      → (me' ≡ (engine_view k (with_engine_session e s (granted (engine_session e s) (word_in a).owner)) ls, [])) × HasGranted k (engine_session e s) (word_in a).owner
+      → (me' ≡ (engine_view k (with_engine_session e s (after_grant (engine_session e s) (word_in a).owner)) ls, [])) × HasGranted k (engine_session e s) (word_in a).owner
   grant_told at told = let same : session_at i ≡ s = ap session_at at ∙ session-lease_word s in subst (λ (z : Seated × ℕ). GrantOf z.1 (step slots i a 0 none) z.0 r me') (λ j. (is j, same j)) told
 
-  pub publish_told : i ≡ published_word s → PublishTells (step slots i a 0 none) me r me' → me' ≡ (engine_view k (with_engine_session e s (has_published (engine_session e s) a)) ls, [])
+  pub publish_told : i ≡ published_word s → PublishTells (step slots i a 0 none) me r me' → me' ≡ (engine_view k (with_engine_session e s (after_publish (engine_session e s) a)) ls, [])
   publish_told at told = let same : session_at i ≡ s = ap session_at at ∙ session-published_word s in subst (λ (z : Seated × ℕ). PublishOf z.1 (step slots i a 0 none) z.0 r me') (λ j. (is j, same j)) told
 
   pub fetch_told : (library : ℕ) → library ≤ 16 → i ≡ taken_word s library → FetchTells (step slots i 0 0 none) me r me' → FetchOf s library (step slots i 0 0 none) (engine_view k e ls, []) r me'
@@ -132,6 +132,6 @@ pub revoke_owes : (seat seat' : Seat (Option Item) View) (rows : List EngineRow)
     → row ≡ get_or rows s row → RevokeTells (step slots i a 0 none) seat.me r seat'.me → SeesRow seat seat' rows s w row
 revoke_owes seat seat' rows k slots s i a r w row is shape sizes here at word row_is tells =
     let told = revoke_told k slots s i r a seat.me seat'.me seat.me.0.knows seat.me.0.libraries (engine_rests seat rows k is shape) at tells in
-    let same : pending (revoked (engine_session seat.me.0.knows s) (word_in r)) ≡ pending (looked (engine_session seat.me.0.knows s) (word_in r)) = ap (λ (n : EngineNumbers). n.pending) (told.1.numbers ∙ sym told.1.look.numbers) in
+    let same : pending (after_revoke (engine_session seat.me.0.knows s) (word_in r)) ≡ pending (after_look (engine_session seat.me.0.knows s) (word_in r)) = ap (λ (n : EngineNumbers). n.pending) (told.1.numbers ∙ sym told.1.look.numbers) in
     subst (λ (w : Word). SeesRow seat seat' rows s w row) (sym word)
-    (sees_row seat seat' rows k s k.depth (word_in r) row (revoked (engine_session seat.me.0.knows s) (word_in r)) is shape here row_is told.0 told.1.look.more told.1.numbers (subst (λ n. n ≤ k.depth) (sym same) told.1.look.within) sizes.depth)
+    (sees_row seat seat' rows k s k.depth (word_in r) row (after_revoke (engine_session seat.me.0.knows s) (word_in r)) is shape here row_is told.0 told.1.look.more told.1.numbers (subst (λ n. n ≤ k.depth) (sym same) told.1.look.within) sizes.depth)

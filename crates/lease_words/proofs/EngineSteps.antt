@@ -13,7 +13,7 @@ use Rattle.lease_core.specs.Lines.{no_line, word_of, IsShown, raised}
 use Rattle.lease_core.specs.Word.{word_in}
 use Rattle.lease_core.proofs.WordsShown.{words_shown}
 use Rattle.lease_words.specs.declared.item.Item.{Item}
-use Rattle.lease_words.specs.declared.view.Held.{Held}
+use Rattle.lease_words.specs.declared.view.LibraryLease.{LibraryLease}
 use Rattle.lease_words.specs.declared.view.Shape.{Shape}
 use Rattle.lease_words.specs.declared.view.EngineSession.{EngineSession}
 use Rattle.lease_words.specs.declared.view.EngineKnows.{EngineKnows}
@@ -22,10 +22,10 @@ use Rattle.lease_words.specs.declared.view.View.{View}
 use Rattle.lease_words.specs.Layout.{lease_word}
 use Rattle.lease_words.specs.Leases.{Each, Stands, OthersRest, AreLines, IsLineOf, IsNotOlder, total}
 use Rattle.lease_words.specs.Views.{base_of, with_engine_session, engine_view, taken_of, last_library, shown_sends, granted_lines, pending, library_session}
-use Rattle.lease_words.specs.Sees.{looked}
+use Rattle.lease_words.specs.Sees.{after_look}
 use Rattle.lease_words.specs.Facts.{Lane, Session, IsLane, IsSession, EngineFits, LibraryFits}
 use Rattle.lease_words.specs.Rule.{Ruled, SlotsFit}
-use Rattle.lease_words.specs.Tells.{Looked, IsSettled, engine_numbers, numbers_looked}
+use Rattle.lease_words.specs.Tells.{HasLooked, IsSettled, engine_numbers, numbers_after_look}
 use Rattle.lease_words.proofs.Lines.{raised_follows, follows_length, follows_last, shown_not_newer}
 use Rattle.lease_words.proofs.Totals.{granted_total, granted_none, last_here, HasGrown, follows_grown}
 use Rattle.lease_words.proofs.Places.{updated_all, words_lease}
@@ -58,8 +58,8 @@ move_still base libraries library t new moves = record { leases = refl; items = 
 pub settled_told : (base depth sends s : ℕ) (t : Session) (es : EngineSession) (l : LibraryKnows) → LibraryFits sends l.number l.sending s t (library_session l s) → IsLane base depth t.lines l.number (t.lanes l.number)
     → es.base ≡ base → es.lines ≡ t.lines → IsPrefix (taken_of es l.number) (t.lanes l.number).items → IsSettled s es l
 settled_told base depth sends s t es l fits lane based lines begins = record {
-  stands = subst (λ (z : ℕ × List Line × List Held). Each (Stands z.0 z.1 l.number) z.2) (λ i. (sym based i, sym lines i, sym fits.leases i)) lane.stands;
-  others = subst (λ (z : ℕ × List Line × List Held). OthersRest z.0 z.1 l.number z.2) (λ i. (sym based i, sym lines i, sym fits.leases i)) lane.others;
+  stands = subst (λ (z : ℕ × List Line × List LibraryLease). Each (Stands z.0 z.1 l.number) z.2) (λ i. (sym based i, sym lines i, sym fits.leases i)) lane.stands;
+  others = subst (λ (z : ℕ × List Line × List LibraryLease). OthersRest z.0 z.1 l.number z.2) (λ i. (sym based i, sym lines i, sym fits.leases i)) lane.others;
   words = subst (λ (ls : List Line). Each (IsShown ls) (library_session l s).words) (sym lines) fits.words;
   taken = subst (λ (items : List Item). IsPrefix (taken_of es l.number) items) (sym fits.items) begins;
   all = ap length fits.items ∙ (lane.all ∙ (λ i. total l.number (granted_lines (sym based i) (sym lines i))));
@@ -128,16 +128,16 @@ module _ (k : Shape) (taking s : ℕ) (es : EngineSession) (t : Session) (w : Wo
   before : (library : ℕ) → shown_sends es library ≡ granted_total (base_of k s) library t.shown
   before library = λ i. granted_total (fits.based i) library (fits.lines i)
 
-  after : (library : ℕ) → shown_sends (looked es w) library ≡ granted_total (base_of k s) library t.lines
+  after : (library : ℕ) → shown_sends (after_look es w) library ≡ granted_total (base_of k s) library t.lines
   after library = λ i. granted_total (fits.based i) library (now_all i)
 
   last_now : (last_or no_line (raised es.lines w)).library ≡ (last_or no_line t.lines).library
   last_now = ap (λ l. (last_or no_line l).library) now_all
 
-  last_is : last_library es ≡ last_library (looked es w)
+  last_is : last_library es ≡ last_library (after_look es w)
   last_is = ap (λ l. (last_or no_line l).library) fits.lines ∙ ((follows_last t.shown t.lines so.follows).0 ∙ sym last_now)
 
-  pub fits_seen : EngineFits k.libraries (base_of k s) taking s (with_lines t t.lines) (looked es w)
+  pub fits_seen : EngineFits k.libraries (base_of k s) taking s (with_lines t t.lines) (after_look es w)
   fits_seen = record {
     based = fits.based;
     lines = now_all;
@@ -158,11 +158,11 @@ module _ (k : Shape) (taking s : ℕ) (es : EngineSession) (t : Session) (w : Wo
   is_here : base_of k s < length t.lines → IsLineOf k.libraries (last_or no_line t.lines)
   is_here above = last_here (base_of k s) k.libraries t.lines so.are_lines above
 
-  none_pending : (library : ℕ) → length t.lines ≤ base_of k s → shown_sends (looked es w) library ≡ 0
+  none_pending : (library : ℕ) → length t.lines ≤ base_of k s → shown_sends (after_look es w) library ≡ 0
   none_pending library low = after library ∙ ap (total library) (granted_none (base_of k s) t.lines low)
 
   -- a lane has no more items than it is deep that weren't taken
-  lane_within : (library : ℕ) → 1 ≤ library → library ≤ k.libraries → shown_sends (looked es w) library - length (taken_of es library) ≤ k.depth
+  lane_within : (library : ℕ) → 1 ≤ library → library ≤ k.libraries → shown_sends (after_look es w) library - length (taken_of es library) ≤ k.depth
   lane_within library one most =
       let lane = so.lanes library one most in
       let knows = fits.lanes library one most in
@@ -172,11 +172,11 @@ module _ (k : Shape) (taking s : ℕ) (es : EngineSession) (t : Session) (w : Wo
       let now = after library in
       omega arith
 
-  within : pending (looked es w) ≤ k.depth
+  within : pending (after_look es w) ≤ k.depth
   within =
-      let library : ℕ = last_library (looked es w) in
+      let library : ℕ = last_library (after_look es w) in
       elim (dec_le (length t.lines) (base_of k s)) [
-        | yes low ↦ let none : shown_sends (looked es w) library ≡ 0 = none_pending library low in omega arith
+        | yes low ↦ let none : shown_sends (after_look es w) library ≡ 0 = none_pending library low in omega arith
         | no high ↦
             let above : base_of k s < length t.lines = omega (arith, high) in
             let it = is_here above in
@@ -189,21 +189,21 @@ module _ (k : Shape) (taking s : ℕ) (es : EngineSession) (t : Session) (w : Wo
   more : (last_or no_line es.lines).sends ≤ w.count
   more = let le = (follows_last t.shown t.lines so.follows).1 in let a : (last_or no_line es.lines).sends ≡ (last_or no_line t.shown).sends = ap (λ l. (last_or no_line l).sends) fits.lines in let b = count_is in omega arith
 
-  pending_is : pending es ≡ shown_sends es (last_library (looked es w)) - length (taken_of es (last_library (looked es w)))
+  pending_is : pending es ≡ shown_sends es (last_library (after_look es w)) - length (taken_of es (last_library (after_look es w)))
   pending_is = ap (λ library. shown_sends es library - length (taken_of es library)) last_is
 
-  pending_now : pending (looked es w) ≡ pending es + (w.count - (last_or no_line es.lines).sends)
+  pending_now : pending (after_look es w) ≡ pending es + (w.count - (last_or no_line es.lines).sends)
   pending_now =
-      let library : ℕ = last_library (looked es w) in
+      let library : ℕ = last_library (after_look es w) in
       let g = grown library in
       let own : granted_total (base_of k s) library t.lines ≡ granted_total (base_of k s) library t.shown + ((last_or no_line t.lines).sends - (last_or no_line t.shown).sends) = g.own last_now in
       let was : shown_sends es library ≡ granted_total (base_of k s) library t.shown = before library in
-      let now : shown_sends (looked es w) library ≡ granted_total (base_of k s) library t.lines = after library in
-      let sent : (last_or no_line es.lines).sends ≡ (last_or no_line t.shown).sends = ap (λ l. (last_or no_line l).sends) fits.lines in
+      let now : shown_sends (after_look es w) library ≡ granted_total (base_of k s) library t.lines = after library in
+      let as_seen : (last_or no_line es.lines).sends ≡ (last_or no_line t.shown).sends = ap (λ l. (last_or no_line l).sends) fits.lines in
       let count : w.count ≡ (last_or no_line t.lines).sends = count_is in
       let old : pending es ≡ shown_sends es library - length (taken_of es library) = pending_is in
       elim (dec_le (length t.lines) (base_of k s)) [
-        | yes low ↦ let none : shown_sends (looked es w) library ≡ 0 = none_pending library low in omega arith
+        | yes low ↦ let none : shown_sends (after_look es w) library ≡ 0 = none_pending library low in omega arith
         | no high ↦
             let above : base_of k s < length t.lines = omega (arith, high) in
             let it = is_here above in
@@ -211,13 +211,13 @@ module _ (k : Shape) (taking s : ℕ) (es : EngineSession) (t : Session) (w : Wo
             omega arith
       ]
 
-  pub numbers_now : engine_numbers (looked es w) ≡ numbers_looked (engine_numbers es) w.count
+  pub numbers_now : engine_numbers (after_look es w) ≡ numbers_after_look (engine_numbers es) w.count
   numbers_now =
       let size : length (raised es.lines w) ≡ length es.lines = ap length now_all ∙ (sym (follows_length t.shown t.lines so.follows) ∙ sym (ap length fits.lines)) in
       let count : (last_or no_line (raised es.lines w)).sends ≡ w.count = ap (λ l. (last_or no_line l).sends) now_all ∙ sym count_is in
       λ i. record { lease = size i; library = sym last_is i; count = count i; pending = pending_now i }
 
-  pub looked_told : (ls : List LibraryKnows) → Each (IsSettled s (looked es w)) ls → Looked k s es w ls
+  pub looked_told : (ls : List LibraryKnows) → Each (IsSettled s (after_look es w)) ls → HasLooked k s es w ls
   looked_told ls settled = record {
     is = ap word_of now_all ∙ sym is;
     later = subst (λ (v : Word). Each (λ (seen : Word). IsNotOlder seen v) es.words) (sym is) (each_map (shown_not_newer t.lines) es.words fits.words);

@@ -16,7 +16,8 @@ use Rattle.lease_words.specs.declared.view.LibraryKnows.{LibraryKnows}
 use Rattle.lease_words.specs.Layout.{lease_word}
 use Rattle.lease_words.specs.Leases.{AreLines, is_running}
 use Rattle.lease_words.specs.Views.{engine_session, with_engine_session, engine_view, base_of, taken_of, last_library, shown_sends, pending}
-use Rattle.lease_words.specs.Sees.{fresh_line, granted}
+use Rattle.lease_core.specs.Lines.{granted_line}
+use Rattle.lease_words.specs.Sees.{after_grant}
 use Rattle.lease_words.specs.Facts.{Session, EngineFits}
 use Rattle.lease_words.specs.Rule.{Ruled}
 use Rattle.lease_words.specs.Tells.{Seated, GrantTells, HasGranted, engine_numbers}
@@ -28,22 +29,22 @@ use Rattle.lease_words.proofs.EngineSteps.{LinesMove, fits_relined, ruled_after}
 
 -- a session without a running lease is granted
 grant_moves : (base libraries : ℕ) (lines : List Line) (library : ℕ) → AreLines base libraries lines → is_running lines ≡ false → length lines < 16777215 → libraries ≤ 16 → 1 ≤ library → library ≤ libraries
-    → LinesMove base libraries lines (lines ++ fresh_line library ∷ [])
+    → LinesMove base libraries lines (lines ++ granted_line library ∷ [])
 grant_moves base libraries lines library are ended room few one most = record {
-  are = lines_push base libraries lines (fresh_line library) are ended room
+  are = lines_push base libraries lines (granted_line library) are ended room
       (record { from_one = one; to_last = omega arith; few = omega arith; heir = tt })
       (record { from_one = one; to_last = most; few = omega arith; heir = tt });
-  words = shown_push lines (fresh_line library);
+  words = shown_push lines (granted_line library);
   lanes = λ depth other lane _ _ is. lane_granted base libraries depth lines library other lane are.based is;
 }
 
-fresh_none : (base library to : ℕ) (lines : List Line) → base ≤ length lines → granted_total base library (lines ++ fresh_line to ∷ []) ≡ granted_total base library lines
-fresh_none base library to lines low = total_last base library lines (fresh_line to) low ∙ (let e = none_sent library to in omega arith)
+fresh_none : (base library to : ℕ) (lines : List Line) → base ≤ length lines → granted_total base library (lines ++ granted_line to ∷ []) ≡ granted_total base library lines
+fresh_none base library to lines low = total_last base library lines (granted_line to) low ∙ (let e = none_sent library to in omega arith)
   where
-    none_sent : (library to : ℕ) → Rattle.lease_words.specs.Leases.sends_of library (fresh_line to) ≡ 0
+    none_sent : (library to : ℕ) → Rattle.lease_words.specs.Leases.sends_of library (granted_line to) ≡ 0
     none_sent library to = elim (ℕ_discrete to library) [
-      | yes own ↦ sends_own library (fresh_line to) own
-      | no other ↦ sends_none library (fresh_line to) other
+      | yes own ↦ sends_own library (granted_line to) own
+      | no other ↦ sends_none library (granted_line to) other
     ]
 
 -- where nothing is pending, all that the lines show was taken
@@ -58,16 +59,16 @@ all_taken libraries base taking s t es fits none_pending library one most = elim
 ]
 
 fresh_word : (lines : List Line) (library n m : ℕ) → m ≡ length lines → library < 64 → n ≡ number_of (record { lease = m + 1; owner = library; standing = Active; count = 0 })
-    → word_in n ≡ word_of (lines ++ fresh_line library ∷ [])
+    → word_in n ≡ word_of (lines ++ granted_line library ∷ [])
 fresh_word lines library n m size few is =
     let next : m + 1 ≡ suc (length lines) = omega arith in
     ap word_in is ∙ (word_parts (record { lease = m + 1; owner = library; standing = Active; count = 0 }) few (omega arith)
-    ∙ (ap (λ (l : ℕ). word_by l (fresh_line library)) next ∙ sym (word_of_push lines (fresh_line library))))
+    ∙ (ap (λ (l : ℕ). word_by l (granted_line library)) next ∙ sym (word_of_push lines (granted_line library))))
 
 fresh_numbers : (es : EngineSession) (library : ℕ) → es.base ≤ length es.lines → length (taken_of es library) ≡ shown_sends es library
-    → engine_numbers (granted es library) ≡ record { lease = length es.lines + 1; library = library; count = 0; pending = 0 }
+    → engine_numbers (after_grant es library) ≡ record { lease = length es.lines + 1; library = library; count = 0; pending = 0 }
 fresh_numbers es library low taken =
-    let x : Line = fresh_line library in
+    let x : Line = granted_line library in
     let lines : List Line = es.lines ++ x ∷ [] in
     let last : last_or no_line lines ≡ x = last_of_push no_line es.lines x in
     let size : length lines ≡ length es.lines + 1 = length_push es.lines x ∙ omega arith in
@@ -80,7 +81,7 @@ fresh_numbers es library low taken =
 
 -- what a grant tells, of the library that the word names
 abbrev GrantBy : Shape → EngineKnows → List LibraryKnows → ℕ → ℕ → Seated → Type 0
-GrantBy k e ls s library m' = (m' ≡ (engine_view k (with_engine_session e s (granted (engine_session e s) library)) ls, [])) × HasGranted k (engine_session e s) library
+GrantBy k e ls s library m' = (m' ≡ (engine_view k (with_engine_session e s (after_grant (engine_session e s) library)) ls, [])) × HasGranted k (engine_session e s) library
 
 module _ (k : Shape) (id : ℕ) (e : EngineKnows) (ls : List LibraryKnows) (s : ℕ) (here : s < k.sessions) where
   abbrev mine : EngineSession
@@ -98,26 +99,26 @@ module _ (k : Shape) (id : ℕ) (e : EngineKnows) (ls : List LibraryKnows) (s : 
       let lines : mine.lines ≡ t.lines = fits.lines ∙ same in
       let length_is : length mine.lines ≡ length t.lines = ap length lines in
       let based : base_of k s ≤ length t.lines = so.are_lines.based in
-      let now : List Line = t.lines ++ fresh_line library ∷ [] in
+      let now : List Line = t.lines ++ granted_line library ∷ [] in
       let moves : LinesMove (base_of k s) k.libraries t.lines now = grant_moves (base_of k s) k.libraries t.lines library so.are_lines (ap is_running (sym lines) ∙ ended) (omega arith) few one most in
-      let line_now : mine.lines ++ fresh_line library ∷ [] ≡ now = ap (λ l. l ++ fresh_line library ∷ []) lines in
+      let line_now : mine.lines ++ granted_line library ∷ [] ≡ now = ap (λ l. l ++ granted_line library ∷ []) lines in
       let all = all_taken k.libraries (base_of k s) e.taking s t mine fits taken in
-      let mine_now = fits_relined k.libraries (base_of k s) e.taking s t now (mine.lines ++ fresh_line library ∷ []) mine fits line_now moves.words
+      let mine_now = fits_relined k.libraries (base_of k s) e.taking s t now (mine.lines ++ granted_line library ∷ []) mine fits line_now moves.words
       (λ other a b.
       let a : length (taken_of mine other) ≡ granted_total (base_of k s) other now =
       all other a b ∙ ((λ i. granted_total (fits.based i) other (lines i)) ∙ sym (fresh_none (base_of k s) other library t.lines based)) in
       (omega arith, λ _. a)) in
       let word : word_in new ≡ word_of now = fresh_word t.lines library new (length mine.lines) length_is (omega arith) is in
       let low : mine.base ≤ length mine.lines = let b : mine.base ≡ base_of k s = fits.based in omega arith in
-      let owner : library ≡ (word_in new).owner = sym (ap (λ (v : Word). v.owner) word ∙ ap (λ (v : Word). v.owner) (word_of_push t.lines (fresh_line library))) in
+      let owner : library ≡ (word_in new).owner = sym (ap (λ (v : Word). v.owner) word ∙ ap (λ (v : Word). v.owner) (word_of_push t.lines (granted_line library))) in
       let told : HasGranted k mine library = record {
         are_lines = subst (λ (z : ℕ × List Line). AreLines z.0 k.libraries z.1) (λ i. (sym fits.based i, sym line_now i)) moves.are;
         numbers = fresh_numbers mine library low (all library one most);
       } in
-      let view = engine_view k (with_engine_session e s (granted mine library)) ls in (
+      let view = engine_view k (with_engine_session e s (after_grant mine library)) ls in (
         view,
         keeps,
         tt,
-        ruled_after k id e ls s here st q at now moves new (granted mine library) word mine_now,
+        ruled_after k id e ls s here st q at now moves new (after_grant mine library) word mine_now,
         subst (λ (z : ℕ × ℕ). GrantBy k e ls z.0 z.1 (view, [])) (λ i. (sym (session-lease_word s) i, owner i)) (refl, told),
       )

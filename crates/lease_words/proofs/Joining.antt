@@ -1,4 +1,4 @@
--- A table begins under its rule, and keeps it where seats are cut apart, joined, and meet.
+-- A table keeps its rule where seats are cut apart, joined, and meet.
 use Rattle.std.proofs.Common.{◌≡◌, ◌≢◌, ℕ, ◌<◌, List, [], ◌∷◌, ◌++◌, length, set, true, Option, None, refl, sym, ap, ◌∙◌, subst, ⊎_elim, arith}
 use mathlib.Core.Option.{none, some}
 use lib.ListN.{get_elem?}
@@ -13,21 +13,13 @@ use Rattle.lease_words.specs.Layout.{word_count, slot_count}
 use Rattle.lease_words.specs.Leases.{Each}
 use Rattle.lease_words.specs.Views.{engine_view, library_view, new_engine, new_libraries, without_first, first_alone, with_first, nobody, first_library, other_libraries}
 use Rattle.lease_words.specs.Rule.{Truth, Ruled, IsShape, EngineKnowsSo, LibraryKnowsSo, AreApart, KnowsSo}
-use Rattle.lease_words.specs.Tells.{MeetTells, engine_met, library_met}
+use Rattle.lease_words.specs.Tells.{MeetTells, engine_after_meeting, library_after_meeting}
 use Rattle.atomic_table.proofs.Lists.{at_set, set_else}
-use Rattle.lease_words.proofs.Opening.{begins}
 use Rattle.lease_words.proofs.Told.{met, engine_met_so, library_met_so}
 use Rattle.lease_words.proofs.Places.{updated, updated_here, updated_else}
 use Rattle.lease_words.proofs.Lists.{at_end, each_two}
 use Rattle.lease_words.proofs.Seats.{off, each_map, views_set}
 use Rattle.std.specs.Prelude.{replicate}
-
--- the words of a new table
-abbrev pub blank : ℕ → List ℕ
-blank n = replicate n 0
-
-pub opens : (k : Shape) → IsShape k → k.before ≡ [] → Ruled k (opening (blank (word_count k.sessions k.libraries)) (replicate {A = Option Item} (slot_count k.sessions k.libraries) None) (engine_view k (new_engine k) (new_libraries k 1 k.libraries)))
-opens k shape fresh = begins k shape fresh
 
 -- the libraries' seats change, and nothing else
 abbrev with_libraries : Truth → (ℕ → ℕ) → Truth
@@ -128,8 +120,8 @@ module _ (k : Shape) (id : ℕ) where
   meets_at slots e l ls rests st q size at small =
       let t : Truth = q.truth in
       let me : KnowsSo k t id (engine_view k e (l ∷ ls)) = q.views id (engine_view k e (l ∷ ls)) at in
-      let e' : EngineKnows = engine_met e l in
-      let l' : LibraryKnows = library_met e l in
+      let e' : EngineKnows = engine_after_meeting e l in
+      let l' : LibraryKnows = library_after_meeting e l in
       let told : View = engine_view k e' (l' ∷ ls) in
       let mine : KnowsSo k t id told = record {
         engine = λ _. engine_met_so k t id e l q.sessions (me.engine refl) me.libraries.0;
@@ -142,5 +134,5 @@ module _ (k : Shape) (id : ℕ) where
         tt,
         subst (λ (ws : List ℕ). Ruled k record { words = ws; homes = st.homes; views = set st.views id told }) (sym (set-get_or st.words 0 0))
             (record { truth = t; shape = q.shape; sessions = q.sessions; words = q.words; slots = q.slots; lanes = q.lanes; views = all }),
-        (met k t id e l q.sessions (me.engine refl) me.libraries.0, refl),
+        (met k t id e l q.sessions (me.engine refl) me.libraries.0, refl, record { state = st; ruled = q; seat = id; knows = at }),
       )

@@ -11,10 +11,11 @@ use Rattle.lease_core.specs.declared.word.Standing.TheVariants.{Revoked}
 use Rattle.lease_core.specs.Lines.{word_of, no_line, standing_of, shown_owner}
 use Rattle.lease_core.specs.State.{last_or}
 use Rattle.lease_words.specs.declared.item.Item.{Item}
-use Rattle.lease_words.specs.declared.view.Held.{Held}
-use Rattle.lease_words.specs.Leases.{Each, Stands, OthersRest, FirstRuns, AreLines, held_lease, held_count, leases_seen, counted_first, ended_first, lost, total, EndsLease, new_lease, shows_lease, is_active, FitsEnding, held_by, IsKept, AllEnded, runs}
+use Rattle.lease_words.specs.declared.view.LibraryLease.{LibraryLease}
+use Rattle.lease_words.specs.Leases.{Each, Stands, OthersRest, FirstRuns, AreLines, held_lease, held_count, leases_after_see, with_one_send, with_first_ending, loss_ending, total, EndsLease, new_lease, shows_lease, is_active, FitsEnding, held_by, IsKept, AllEnded, runs}
 use Rattle.lease_words.specs.Views.{granted_lines}
-use Rattle.lease_words.specs.Sees.{give_back, fresh_line}
+use Rattle.lease_core.specs.Lines.{granted_line}
+use Rattle.lease_words.specs.Sees.{release_ending}
 use Rattle.lease_words.specs.Facts.{Lane, IsLane}
 use Rattle.lease_words.proofs.Lists.{each_two}
 use Rattle.lease_words.proofs.Lines.{GoesOn, as_front, get_push, get_push_before, get_push_here, get_within, granted_push, total_push, running_above}
@@ -24,7 +25,7 @@ each_map P Q [] f all = tt
 each_map P Q (x ∷ xs) f all = (f x all.0, each_map P Q xs f all.1)
 
 -- a lease stands in one line more
-pub stands_push : (base : ℕ) (lines : List Line) (z : Line) (library : ℕ) (h : Held) → Stands base lines library h → Stands base (lines ++ z ∷ []) library h
+pub stands_push : (base : ℕ) (lines : List Line) (z : Line) (library : ℕ) (h : LibraryLease) → Stands base lines library h → Stands base (lines ++ z ∷ []) library h
 stands_push base lines z library h s = record { above = s.above; line = s.line; at = get_push_before lines z s.line (h.lease - 1) s.at; whose = s.whose; count = s.count; ending = s.ending }
 
 pub total_one_more : (base : ℕ) (front : List Line) (x : Line) (library : ℕ) → base ≤ length front → total library (granted_lines base (front ++ x ∷ [])) ≡ total library (granted_lines base front) + total library (x ∷ [])
@@ -46,7 +47,7 @@ count_other : (n library sends : ℕ) → n ≢ library → (if n == library the
 count_other n library sends e = grind (arith, nat_tests)
 
 -- a line without sends counts for no library
-none_sent : (library : ℕ) (to : ℕ) → total library (fresh_line to ∷ []) ≡ 0
+none_sent : (library : ℕ) (to : ℕ) → total library (granted_line to ∷ []) ≡ 0
 none_sent library to = let e = count_none to library in omega arith
 
 -- the count of a line of this library, and of a line of another
@@ -79,7 +80,7 @@ kept_taken : (e : Ending) → e ≡ TakenBack → IsKept e
 kept_taken e taken = subst IsKept (sym taken) tt
 
 -- where the last line changes, a lease of another line stands on
-pub stands_beside : (base library : ℕ) (front : List Line) (x y : Line) (h : Held) (s : Stands base (front ++ x ∷ []) library h)
+pub stands_beside : (base library : ℕ) (front : List Line) (x y : Line) (h : LibraryLease) (s : Stands base (front ++ x ∷ []) library h)
     → ((h.lease - 1 ≡ length front) × (s.line ≡ x) → Stands base (front ++ y ∷ []) library h) → Stands base (front ++ y ∷ []) library h
 stands_beside base library front x y h s last = ⊎_elim last
     (λ before. record { above = s.above; line = s.line; at = get_push_before front y s.line (h.lease - 1) before.1; whose = s.whose; count = s.count; ending = s.ending })
@@ -88,7 +89,7 @@ stands_beside base library front x y h s last = ⊎_elim last
 at_last : (front : List Line) (y : Line) (n : ℕ) → n ≡ length front → slice_get (front ++ y ∷ []) n ≡ Some y
 at_last front y n e = rw (e) (get_push_here front y)
 
-stands_on : (base library : ℕ) (front : List Line) (x y : Line) (h : Held) → GoesOn x y → (x.library ≢ library) ⊎ ((y.sends ≡ x.sends) × (y.ending ≡ TakenBack)) → Stands base (front ++ x ∷ []) library h → Stands base (front ++ y ∷ []) library h
+stands_on : (base library : ℕ) (front : List Line) (x y : Line) (h : LibraryLease) → GoesOn x y → (x.library ≢ library) ⊎ ((y.sends ≡ x.sends) × (y.ending ≡ TakenBack)) → Stands base (front ++ x ∷ []) library h → Stands base (front ++ y ∷ []) library h
 stands_on base library front x y h on (inl other) s = stands_beside base library front x y h s (λ last. absurd (other (sym (ap (λ (l : Line). l.library) last.1) ∙ s.whose)))
 stands_on base library front x y h on (inr same) s = stands_beside base library front x y h s (λ last. record {
   above = s.above;
@@ -99,8 +100,8 @@ stands_on base library front x y h on (inr same) s = stands_beside base library 
   ending = fits_taken h.ending y.ending (fits_running h.ending s.line.ending (ap (λ (l : Line). l.ending) last.1 ∙ on.ran) s.ending) same.1;
 })
 
-rest_last : (base library : ℕ) (front : List Line) (x y : Line) (leases : List Held) → GoesOn x y → (x.library ≢ library) ⊎ ((y.sends ≡ x.sends) × (y.ending ≡ TakenBack)) → OthersRest base (front ++ x ∷ []) library leases
-    → (k : ℕ) → k ≡ length front → base ≤ k → y.library ≡ library → Each (λ (h : Held). h.lease ≢ suc k) leases → (y.sends ≡ 0) × IsKept y.ending
+rest_last : (base library : ℕ) (front : List Line) (x y : Line) (leases : List LibraryLease) → GoesOn x y → (x.library ≢ library) ⊎ ((y.sends ≡ x.sends) × (y.ending ≡ TakenBack)) → OthersRest base (front ++ x ∷ []) library leases
+    → (k : ℕ) → k ≡ length front → base ≤ k → y.library ≡ library → Each (λ (h : LibraryLease). h.lease ≢ suc k) leases → (y.sends ≡ 0) × IsKept y.ending
 rest_last base library front x y leases on (inl other) others k here above whose apart = absurd (other (sym on.whose ∙ whose))
 rest_last base library front x y leases on (inr same) others k here above whose apart =
     let old = others k x (at_last front x k here) above (sym on.whose ∙ whose) apart in
@@ -123,10 +124,10 @@ line_here front x l k here at = ⊎_elim (λ last. last.1) (λ before. absurd (l
 
 -- The last line, which ran, changes, and so does the first lease, whose line it is.
 module _ (base library : ℕ) (front : List Line) (x y : Line) (ran : x.ending ≡ Running) (same : y.library ≡ x.library) where
-  ended_stays : (h : Held) → Stands base (front ++ x ∷ []) library h → runs h.ending ≡ false → Stands base (front ++ y ∷ []) library h
+  ended_stays : (h : LibraryLease) → Stands base (front ++ x ∷ []) library h → runs h.ending ≡ false → Stands base (front ++ y ∷ []) library h
   ended_stays h s ended = stands_beside base library front x y h s (λ last. absurd (ended_elsewhere h.ending s.line.ending ended (ap (λ (l : Line). l.ending) last.1 ∙ ran) s.ending))
 
-  first_moves : (h : Held) (count : ℕ) (ending : Ending) → h.lease ≡ suc (length front) → Stands base (front ++ x ∷ []) library h → (x.sends ≡ h.count → y.sends ≡ count) → FitsEnding ending y.ending
+  first_moves : (h : LibraryLease) (count : ℕ) (ending : Ending) → h.lease ≡ suc (length front) → Stands base (front ++ x ∷ []) library h → (x.sends ≡ h.count → y.sends ≡ count) → FitsEnding ending y.ending
       → Stands base (front ++ y ∷ []) library record { lease = h.lease; count = count; ending = ending }
   first_moves h count ending held s counts fits =
       let here : h.lease - 1 ≡ length front = omega arith in
@@ -140,42 +141,42 @@ module _ (base library : ℕ) (front : List Line) (x y : Line) (ran : x.ending �
         ending = fits;
       }
 
-  others_move : (h h' : Held) (hs : List Held) → h.lease ≡ suc (length front) → h'.lease ≡ h.lease → OthersRest base (front ++ x ∷ []) library (h ∷ hs) → OthersRest base (front ++ y ∷ []) library (h' ∷ hs)
+  others_move : (h h' : LibraryLease) (hs : List LibraryLease) → h.lease ≡ suc (length front) → h'.lease ≡ h.lease → OthersRest base (front ++ x ∷ []) library (h ∷ hs) → OthersRest base (front ++ y ∷ []) library (h' ∷ hs)
   others_move h h' hs held also others k l at above whose apart = ⊎_elim
       (λ last. absurd (apart.0 (also ∙ (held ∙ ap (λ n. suc n) (sym last.0)))))
       (λ before. others k l (get_push_before front x l k before.1) above whose ((λ e. apart.0 (also ∙ e)), apart.1))
       (get_push front y l k at)
 
-  all_move : (h' : Held) (hs : List Held) → Stands base (front ++ y ∷ []) library h' → Each (Stands base (front ++ x ∷ []) library) hs → AllEnded hs → Each (Stands base (front ++ y ∷ []) library) (h' ∷ hs)
-  all_move h' hs first all ended = (first, each_two (Stands base (front ++ x ∷ []) library) (λ (g : Held). runs g.ending ≡ false) (Stands base (front ++ y ∷ []) library) hs ended_stays all ended)
+  all_move : (h' : LibraryLease) (hs : List LibraryLease) → Stands base (front ++ y ∷ []) library h' → Each (Stands base (front ++ x ∷ []) library) hs → AllEnded hs → Each (Stands base (front ++ y ∷ []) library) (h' ∷ hs)
+  all_move h' hs first all ended = (first, each_two (Stands base (front ++ x ∷ []) library) (λ (g : LibraryLease). runs g.ending ≡ false) (Stands base (front ++ y ∷ []) library) hs ended_stays all ended)
 
-  sent_stands : (leases : List Held) → y.ending ≡ Running → y.sends ≡ x.sends + 1 → held_lease leases ≡ suc (length front) → Each (Stands base (front ++ x ∷ []) library) leases → FirstRuns leases → Each (Stands base (front ++ y ∷ []) library) (counted_first leases)
+  sent_stands : (leases : List LibraryLease) → y.ending ≡ Running → y.sends ≡ x.sends + 1 → held_lease leases ≡ suc (length front) → Each (Stands base (front ++ x ∷ []) library) leases → FirstRuns leases → Each (Stands base (front ++ y ∷ []) library) (with_one_send leases)
   sent_stands [] runs more held all latest = tt
   sent_stands (h ∷ hs) runs more held all latest =
       let it = held_runs h.ending h.lease (length front) held in
-      let h' : Held = record { lease = h.lease; count = h.count + 1; ending = h.ending } in
+      let h' : LibraryLease = record { lease = h.lease; count = h.count + 1; ending = h.ending } in
       all_move h' hs (first_moves h (h.count + 1) h.ending it.1 all.0 (λ e. more ∙ ap (λ n. n + 1) e) (fits_run h.ending y.ending it.0 runs)) all.1 latest
 
-  sent_others : (leases : List Held) → held_lease leases ≡ suc (length front) → OthersRest base (front ++ x ∷ []) library leases → OthersRest base (front ++ y ∷ []) library (counted_first leases)
+  sent_others : (leases : List LibraryLease) → held_lease leases ≡ suc (length front) → OthersRest base (front ++ x ∷ []) library leases → OthersRest base (front ++ y ∷ []) library (with_one_send leases)
   sent_others [] held others = absurd (omega arith)
   sent_others (h ∷ hs) held others = others_move h record { lease = h.lease; count = h.count + 1; ending = h.ending } hs (held_runs h.ending h.lease (length front) held).1 refl others
 
-  given_stands : (leases : List Held) (heir : ℕ) → y.ending ≡ GivenBack heir → y.sends ≡ x.sends → held_lease leases ≡ suc (length front) → Each (Stands base (front ++ x ∷ []) library) leases → FirstRuns leases → Each (Stands base (front ++ y ∷ []) library) (ended_first (give_back heir) leases)
+  given_stands : (leases : List LibraryLease) (heir : ℕ) → y.ending ≡ GivenBack heir → y.sends ≡ x.sends → held_lease leases ≡ suc (length front) → Each (Stands base (front ++ x ∷ []) library) leases → FirstRuns leases → Each (Stands base (front ++ y ∷ []) library) (with_first_ending (release_ending heir) leases)
   given_stands [] heir given more held all latest = tt
   given_stands (h ∷ hs) heir given more held all latest =
       let it = held_runs h.ending h.lease (length front) held in
-      let h' : Held = record { lease = h.lease; count = h.count; ending = GivenBack heir } in
+      let h' : LibraryLease = record { lease = h.lease; count = h.count; ending = GivenBack heir } in
       all_move h' hs (first_moves h h.count (GivenBack heir) it.1 all.0 (λ e. more ∙ e) given) all.1 latest
 
-  given_others : (leases : List Held) (heir : ℕ) → held_lease leases ≡ suc (length front) → OthersRest base (front ++ x ∷ []) library leases → OthersRest base (front ++ y ∷ []) library (ended_first (give_back heir) leases)
+  given_others : (leases : List LibraryLease) (heir : ℕ) → held_lease leases ≡ suc (length front) → OthersRest base (front ++ x ∷ []) library leases → OthersRest base (front ++ y ∷ []) library (with_first_ending (release_ending heir) leases)
   given_others [] heir held others = absurd (omega arith)
   given_others (h ∷ hs) heir held others = others_move h record { lease = h.lease; count = h.count; ending = GivenBack heir } hs (held_runs h.ending h.lease (length front) held).1 refl others
 
-counted_latest : (leases : List Held) → FirstRuns leases → FirstRuns (counted_first leases)
+counted_latest : (leases : List LibraryLease) → FirstRuns leases → FirstRuns (with_one_send leases)
 counted_latest [] latest = latest
 counted_latest (h ∷ hs) latest = latest
 
-ended_latest : (f : Ending → Ending) (leases : List Held) → FirstRuns leases → FirstRuns (ended_first f leases)
+ended_latest : (f : Ending → Ending) (leases : List LibraryLease) → FirstRuns leases → FirstRuns (with_first_ending f leases)
 ended_latest f [] latest = latest
 ended_latest f (h ∷ hs) latest = latest
 
@@ -211,7 +212,7 @@ running_runs Running ran ended = cc
 running_runs (GivenBack heir) ran ended = cc
 running_runs TakenBack ran ended = cc
 
-lost_ended : (e : Ending) → runs (lost e) ≡ false
+lost_ended : (e : Ending) → runs (loss_ending e) ≡ false
 lost_ended Running = refl
 lost_ended (GivenBack heir) = refl
 lost_ended TakenBack = refl
@@ -248,7 +249,7 @@ module _ (base library : ℕ) (lines : List Line) where
   held_as (GivenBack heir) n count some s = absurd (omega arith)
   held_as TakenBack n count some s = absurd (omega arith)
 
-  pub held_stands : (leases : List Held) → 0 < held_lease leases → Each (Stands base lines library) leases → Stands base lines library record { lease = held_lease leases; count = held_count leases; ending = Running }
+  pub held_stands : (leases : List LibraryLease) → 0 < held_lease leases → Each (Stands base lines library) leases → Stands base lines library record { lease = held_lease leases; count = held_count leases; ending = Running }
   held_stands [] some all = absurd (omega arith)
   held_stands (h ∷ hs) some all = held_as h.ending h.lease h.count some all.0
 
@@ -256,7 +257,7 @@ module _ (base library : ℕ) (lines : List Line) where
   abbrev Ends : ℕ → Type 0
   Ends n = 0 < n → (l : Line) → slice_get lines (n - 1) ≡ Some l → l.library ≡ library → runs l.ending ≡ false
 
-  lost_as : (e : Ending) (n count : ℕ) → Ends (held_by e n) → Stands base lines library record { lease = n; count = count; ending = e } → Stands base lines library record { lease = n; count = count; ending = lost e }
+  lost_as : (e : Ending) (n count : ℕ) → Ends (held_by e n) → Stands base lines library record { lease = n; count = count; ending = e } → Stands base lines library record { lease = n; count = count; ending = loss_ending e }
   lost_as Running n count ends s =
       let above : base < n = s.above in
       let ended = ends (omega arith) s.line s.at s.whose in
@@ -271,48 +272,48 @@ module _ (base library : ℕ) (lines : List Line) where
   lost_as (GivenBack heir) n count ends s = s
   lost_as TakenBack n count ends s = s
 
-  lost_stands : (leases : List Held) → Ends (held_lease leases) → Each (Stands base lines library) leases → Each (Stands base lines library) (ended_first lost leases)
+  lost_stands : (leases : List LibraryLease) → Ends (held_lease leases) → Each (Stands base lines library) leases → Each (Stands base lines library) (with_first_ending loss_ending leases)
   lost_stands [] ends all = tt
   lost_stands (h ∷ hs) ends all = (lost_as h.ending h.lease h.count ends all.0, all.1)
 
-  lost_others : (leases : List Held) → OthersRest base lines library leases → OthersRest base lines library (ended_first lost leases)
+  lost_others : (leases : List LibraryLease) → OthersRest base lines library leases → OthersRest base lines library (with_first_ending loss_ending leases)
   lost_others [] others = others
   lost_others (h ∷ hs) others = others
 
   lost_lane : (depth : ℕ) (lane : Lane) → Ends (held_lease lane.leases) → IsLane base depth lines library lane
-      → IsLane base depth lines library record { leases = ended_first lost lane.leases; items = lane.items; taken = lane.taken; filling = lane.filling; emptying = lane.emptying }
+      → IsLane base depth lines library record { leases = with_first_ending loss_ending lane.leases; items = lane.items; taken = lane.taken; filling = lane.filling; emptying = lane.emptying }
   lost_lane depth lane ends is = record {
     stands = lost_stands lane.leases ends is.stands;
-    latest = ended_latest lost lane.leases is.latest;
+    latest = ended_latest loss_ending lane.leases is.latest;
     others = lost_others lane.leases is.others;
     all = is.all;
     behind = is.behind;
     within = is.within;
   }
 
-ended_all : (leases : List Held) → FirstRuns leases → AllEnded (ended_first lost leases)
+ended_all : (leases : List LibraryLease) → FirstRuns leases → AllEnded (with_first_ending loss_ending leases)
 ended_all [] latest = tt
 ended_all (h ∷ hs) latest = (lost_ended h.ending, latest)
 
 -- The last line is this library's, and runs, at the place k.
 module _ (base library : ℕ) (lines : List Line) (x : Line) (k : ℕ) (ran : x.ending ≡ Running) (at : slice_get lines k ≡ Some x) where
   -- a lease of that line runs
-  runs_there : (h : Held) → Stands base lines library h → h.lease ≡ suc k → h.ending ≡ Running
+  runs_there : (h : LibraryLease) → Stands base lines library h → h.lease ≡ suc k → h.ending ≡ Running
   runs_there h s e =
       let place : h.lease - 1 ≡ k = omega arith in
       let same : s.line ≡ x = one_line lines s.line x k (subst (λ n. slice_get lines n ≡ Some s.line) place s.at) at in
       fits_running h.ending s.line.ending (ap (λ (l : Line). l.ending) same ∙ ran) s.ending
 
-  none_there : (leases : List Held) → held_lease leases ≢ suc k → FirstRuns leases → Each (Stands base lines library) leases → Each (λ (h : Held). h.lease ≢ suc k) leases
+  none_there : (leases : List LibraryLease) → held_lease leases ≢ suc k → FirstRuns leases → Each (Stands base lines library) leases → Each (λ (h : LibraryLease). h.lease ≢ suc k) leases
   none_there [] other latest all = tt
   none_there (h ∷ hs) other latest all = (
     (λ e. other (held_where h.ending h.lease (runs_there h all.0 e) ∙ e)),
-    each_two (Stands base lines library) (λ (g : Held). runs g.ending ≡ false) (λ (g : Held). g.lease ≢ suc k) hs (λ g s ended e. running_runs g.ending (runs_there g s e) ended) all.1 latest,
+    each_two (Stands base lines library) (λ (g : LibraryLease). runs g.ending ≡ false) (λ (g : LibraryLease). g.lease ≢ suc k) hs (λ g s ended e. running_runs g.ending (runs_there g s e) ended) all.1 latest,
   )
 
   -- a new lease is held
   new_lane : (depth : ℕ) (lane : Lane) → x.library ≡ library → base ≤ k → held_lease lane.leases ≢ suc k → Ends base library lines (held_lease lane.leases) → IsLane base depth lines library lane
-      → IsLane base depth lines library record { leases = new_lease (suc k) ∷ ended_first lost lane.leases; items = lane.items; taken = lane.taken; filling = lane.filling; emptying = lane.emptying }
+      → IsLane base depth lines library record { leases = new_lease (suc k) ∷ with_first_ending loss_ending lane.leases; items = lane.items; taken = lane.taken; filling = lane.filling; emptying = lane.emptying }
   new_lane depth lane whose above other ends is =
       let place : k ≡ suc k - 1 = omega arith in
       record {
@@ -357,9 +358,9 @@ module _ (base libraries depth : ℕ) where
       }
 
   -- a session is granted
-  pub lane_granted : (lines : List Line) (to library : ℕ) (lane : Lane) → base ≤ length lines → IsLane base depth lines library lane → IsLane base depth (lines ++ fresh_line to ∷ []) library lane
+  pub lane_granted : (lines : List Line) (to library : ℕ) (lane : Lane) → base ≤ length lines → IsLane base depth lines library lane → IsLane base depth (lines ++ granted_line to ∷ []) library lane
   lane_granted lines to library lane low is =
-      let z : Line = fresh_line to in
+      let z : Line = granted_line to in
       record {
         stands = each_map (Stands base lines library) (Stands base (lines ++ z ∷ []) library) lane.leases (λ h. stands_push base lines z library h) is.stands;
         latest = is.latest;
@@ -401,7 +402,7 @@ module _ (base libraries depth : ℕ) where
   -- the library sent by the last lease, which it holds
   pub lane_sent : (front : List Line) (x : Line) (library : ℕ) (item : Item) (lane : Lane) → AreLines base libraries (front ++ x ∷ []) → x.ending ≡ Running → x.library ≡ library → held_lease lane.leases ≡ suc (length front)
       → lane.filling ≡ 1 → IsLane base depth (front ++ x ∷ []) library lane
-      → IsLane base depth (front ++ record { library = x.library; sends = x.sends + 1; ending = x.ending } ∷ []) library record { leases = counted_first lane.leases; items = lane.items ++ item ∷ []; taken = lane.taken; filling = 0; emptying = lane.emptying }
+      → IsLane base depth (front ++ record { library = x.library; sends = x.sends + 1; ending = x.ending } ∷ []) library record { leases = with_one_send lane.leases; items = lane.items ++ item ∷ []; taken = lane.taken; filling = 0; emptying = lane.emptying }
   lane_sent front x library item lane are runs whose held filling is =
       let y : Line = record { library = x.library; sends = x.sends + 1; ending = x.ending } in
       let low = running_above base libraries front x are runs in
@@ -425,14 +426,14 @@ module _ (base libraries depth : ℕ) where
   -- the library gave back the last lease, which it holds
   pub lane_given : (front : List Line) (x : Line) (library heir : ℕ) (lane : Lane) → AreLines base libraries (front ++ x ∷ []) → x.ending ≡ Running → x.library ≡ library → held_lease lane.leases ≡ suc (length front)
       → IsLane base depth (front ++ x ∷ []) library lane
-      → IsLane base depth (front ++ record { library = x.library; sends = x.sends; ending = GivenBack heir } ∷ []) library record { leases = ended_first (give_back heir) lane.leases; items = lane.items; taken = lane.taken; filling = lane.filling; emptying = lane.emptying }
+      → IsLane base depth (front ++ record { library = x.library; sends = x.sends; ending = GivenBack heir } ∷ []) library record { leases = with_first_ending (release_ending heir) lane.leases; items = lane.items; taken = lane.taken; filling = lane.filling; emptying = lane.emptying }
   lane_given front x library heir lane are runs whose held is =
       let y : Line = record { library = x.library; sends = x.sends; ending = GivenBack heir } in
       let low = running_above base libraries front x are runs in
       let alike : total library (y ∷ []) ≡ total library (x ∷ []) = refl in
       record {
         stands = given_stands base library front x y runs refl lane.leases heir refl refl held is.stands is.latest;
-        latest = ended_latest (give_back heir) lane.leases is.latest;
+        latest = ended_latest (release_ending heir) lane.leases is.latest;
         others = given_others base library front x y runs refl lane.leases heir held is.others;
         all = is.all ∙ (total_one_more base front x library low ∙ (ap (λ n. total library (granted_lines base front) + n) (sym alike) ∙ sym (total_one_more base front y library low)));
         behind = is.behind;
@@ -441,22 +442,22 @@ module _ (base libraries depth : ℕ) where
 
   -- the library learns by a word that what it held is lost: the last line isn't that of its lease any more, or has ended
   pub lane_lost : (lines : List Line) (library : ℕ) (lane : Lane) → AreLines base libraries lines → (0 < held_lease lane.leases → EndsLease (held_lease lane.leases) (held_count lane.leases) (word_of lines)) → IsLane base depth lines library lane
-      → IsLane base depth lines library record { leases = ended_first lost lane.leases; items = lane.items; taken = lane.taken; filling = lane.filling; emptying = lane.emptying }
+      → IsLane base depth lines library record { leases = with_first_ending loss_ending lane.leases; items = lane.items; taken = lane.taken; filling = lane.filling; emptying = lane.emptying }
   lane_lost lines library lane are ends is = lost_lane base library lines depth lane
       (λ some l at whose.
       let n : ℕ = held_lease lane.leases in
       let some' : 0 < n = some in
       ⊎_elim
       (λ (less : n < length lines). are.ended (n - 1) l at (inl (omega arith)))
-      (λ revoked.
-      let size : length lines ≡ n = revoked.0 in
+      (λ after_revoke.
+      let size : length lines ≡ n = after_revoke.0 in
       let last = place_of_last no_line lines (n - 1) (omega arith) in
-      revoked_ended l.ending (ap (λ (m : Line). standing_of m.ending) (one_line lines l (last_or no_line lines) (n - 1) at last) ∙ revoked.1))
+      revoked_ended l.ending (ap (λ (m : Line). standing_of m.ending) (one_line lines l (last_or no_line lines) (n - 1) at last) ∙ after_revoke.1))
       (ends some))
       is
 
   -- the lane with these leases
-  abbrev With : ℕ → List Line → Lane → List Held → Type 0
+  abbrev With : ℕ → List Line → Lane → List LibraryLease → Type 0
   With library lines lane leases = IsLane base depth lines library record { leases = leases; items = lane.items; taken = lane.taken; filling = lane.filling; emptying = lane.emptying }
 
   -- what was held is lost where its line, if that is the last one, has ended
@@ -476,7 +477,7 @@ module _ (base libraries depth : ℕ) where
 
   seen_shown : (lines : List Line) (library : ℕ) (lane : Lane) → AreLines base libraries lines → IsLane base depth lines library lane
       → 0 < length lines → (last_or no_line lines).ending ≡ Running → (last_or no_line lines).library ≡ library
-      → (c : Bool) → (held_lease lane.leases == length lines) ≡ c → With library lines lane (if c then lane.leases else new_lease (length lines) ∷ ended_first lost lane.leases)
+      → (c : Bool) → (held_lease lane.leases == length lines) ≡ c → With library lines lane (if c then lane.leases else new_lease (length lines) ∷ with_first_ending loss_ending lane.leases)
   seen_shown lines library lane are is some ran whose true same = is
   seen_shown lines library lane are is some ran whose false same =
       let x = last_or no_line lines in
@@ -485,12 +486,12 @@ module _ (base libraries depth : ℕ) where
       let at = place_of_last no_line lines k size in
       let other = eqb_other (held_lease lane.leases) (length lines) same in
       let above : base ≤ k = ⊎_elim (λ low. absurd (running_runs x.ending ran (are.ended k x at (inr low)))) (λ high. high) (below_or_above k base) in
-      subst (λ n. With library lines lane (new_lease n ∷ ended_first lost lane.leases)) size
+      subst (λ n. With library lines lane (new_lease n ∷ with_first_ending loss_ending lane.leases)) size
       (new_lane base library lines x k ran at depth lane whose above (λ e. other (e ∙ size)) (lost_by lines library lane are is (λ held. absurd (other held))) is)
 
   seen_by : (lines : List Line) (library : ℕ) (lane : Lane) → AreLines base libraries lines → IsLane base depth lines library lane
       → (b : Bool) → shows_lease library (word_of lines) ≡ b
-      → With library lines lane (if b then (if held_lease lane.leases == length lines then lane.leases else new_lease (length lines) ∷ ended_first lost lane.leases) else ended_first lost lane.leases)
+      → With library lines lane (if b then (if held_lease lane.leases == length lines then lane.leases else new_lease (length lines) ∷ with_first_ending loss_ending lane.leases) else with_first_ending loss_ending lane.leases)
   seen_by lines library lane are is true shows =
       let x = last_or no_line lines in
       let p = shown_runs x.ending (length lines) x.library library shows in
@@ -501,5 +502,5 @@ module _ (base libraries depth : ℕ) where
 
   -- the library saw the word for which the lines stand
   pub lane_seen : (lines : List Line) (library : ℕ) (lane : Lane) → 1 ≤ library → AreLines base libraries lines → IsLane base depth lines library lane
-      → IsLane base depth lines library record { leases = leases_seen library (word_of lines) lane.leases; items = lane.items; taken = lane.taken; filling = lane.filling; emptying = lane.emptying }
+      → IsLane base depth lines library record { leases = leases_after_see library (word_of lines) lane.leases; items = lane.items; taken = lane.taken; filling = lane.filling; emptying = lane.emptying }
   lane_seen lines library lane named are is = seen_by lines library lane are is (shows_lease library (word_of lines)) refl

@@ -22,8 +22,11 @@ pub mod EngineCalls
 pub mod LibraryCalls
 pub mod TakeCalls
 pub mod MeetingCalls
+pub mod Pasts
+pub mod Outsets
 pub mod MakingCalls
 pub mod SendCalls
 pub mod SendSeats
 pub mod Settled
+pub mod Shows
 pub mod LibraryAnswers

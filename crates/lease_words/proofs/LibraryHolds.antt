@@ -8,62 +8,64 @@ use Rattle.lease_core.specs.declared.lease.Line.{Line}
 use Rattle.lease_core.specs.declared.word.Standing.{Standing}
 use Rattle.lease_core.specs.declared.word.Standing.TheVariants.{Active, Released, Revoked}
 use Rattle.lease_core.specs.declared.word.Word.{Word}
-use Rattle.lease_core.specs.Lines.{word_of, standing_of, shown_owner}
+use Rattle.lease_core.specs.State.{last_or}
+use native.Mathlib.Decide.{ℕ_discrete}
+use Rattle.lease_core.specs.Lines.{no_line, word_of, standing_of, shown_owner}
 use Rattle.lease_core.specs.Word.{word_in, number_of}
-use Rattle.lease_words.specs.declared.view.Held.{Held}
-use Rattle.lease_words.specs.Leases.{AreLines, EndsLease, held_lease, held_count, held_by, ended_first, lost, runs, leases_seen, new_lease, counted_first, shows_lease, is_active}
-use Rattle.lease_words.specs.Sees.{give_back}
+use Rattle.lease_words.specs.declared.view.LibraryLease.{LibraryLease}
+use Rattle.lease_words.specs.Leases.{Each, AreLines, Stands, FitsEnding, AllEnded, FirstRuns, AreBelow, EndsLease, held_lease, held_count, held_by, with_first_ending, loss_ending, runs, leases_after_see, new_lease, with_one_send, shows_lease, is_active}
+use Rattle.lease_words.specs.Sees.{release_ending}
 use Rattle.lease_words.specs.Facts.{Lane, IsLane}
 use Rattle.lease_words.specs.Tells.{held_word}
-use Rattle.lease_words.proofs.Lines.{word_of_push, word_parts, active_number, if_true, if_false, length_push}
-use Rattle.lease_words.proofs.Lanes.{held_line, held_stands}
+use Rattle.lease_words.proofs.Lines.{word_of_push, word_parts, active_number, if_true, if_false, length_push, last_is, get_within}
+use Rattle.lease_words.proofs.Lanes.{held_line, held_stands, shown_runs}
 
 held_none : (e : Ending) (n : ℕ) → runs e ≡ false → held_by e n ≡ 0
 held_none Running n ended = absurd (let no : true ≡ false = ended in cc)
 held_none (GivenBack heir) n ended = refl
 held_none TakenBack n ended = refl
 
-lost_runs : (e : Ending) → runs (lost e) ≡ false
+lost_runs : (e : Ending) → runs (loss_ending e) ≡ false
 lost_runs Running = refl
 lost_runs (GivenBack heir) = refl
 lost_runs TakenBack = refl
 
 -- none is held once the first has ended
-lease_ended : (f : Ending → Ending) (leases : List Held) → ((e : Ending) → runs (f e) ≡ false) → held_lease (ended_first f leases) ≡ 0
+lease_ended : (f : Ending → Ending) (leases : List LibraryLease) → ((e : Ending) → runs (f e) ≡ false) → held_lease (with_first_ending f leases) ≡ 0
 lease_ended f [] ended = refl
 lease_ended f (h ∷ hs) ended = held_none (f h.ending) h.lease (ended h.ending)
 
-count_ended : (f : Ending → Ending) (leases : List Held) → ((e : Ending) → runs (f e) ≡ false) → held_count (ended_first f leases) ≡ 0
+count_ended : (f : Ending → Ending) (leases : List LibraryLease) → ((e : Ending) → runs (f e) ≡ false) → held_count (with_first_ending f leases) ≡ 0
 count_ended f [] ended = refl
 count_ended f (h ∷ hs) ended = held_none (f h.ending) h.count (ended h.ending)
 
-no_word : (library : ℕ) (leases : List Held) → held_lease leases ≡ 0 → held_word library leases ≡ 0
+pub no_word : (library : ℕ) (leases : List LibraryLease) → held_lease leases ≡ 0 → held_word library leases ≡ 0
 no_word library leases none = if_true (eqb (held_lease leases) 0) 0 (held_lease leases * 2 ^ 40 + library * 2 ^ 34 + held_count leases) (eq-eqb (held_lease leases) 0 none)
 
-pub lost_word : (library : ℕ) (leases : List Held) → held_word library (ended_first lost leases) ≡ 0
-lost_word library leases = no_word library (ended_first lost leases) (lease_ended lost leases lost_runs)
+pub lost_word : (library : ℕ) (leases : List LibraryLease) → held_word library (with_first_ending loss_ending leases) ≡ 0
+lost_word library leases = no_word library (with_first_ending loss_ending leases) (lease_ended loss_ending leases lost_runs)
 
-pub lost_count : (leases : List Held) → held_count (ended_first lost leases) ≡ 0
-lost_count leases = count_ended lost leases lost_runs
+pub lost_count : (leases : List LibraryLease) → held_count (with_first_ending loss_ending leases) ≡ 0
+lost_count leases = count_ended loss_ending leases lost_runs
 
-pub given_word : (library heir : ℕ) (leases : List Held) → held_word library (ended_first (give_back heir) leases) ≡ 0
-given_word library heir leases = no_word library (ended_first (give_back heir) leases) (lease_ended (give_back heir) leases (λ _. refl))
+pub given_word : (library heir : ℕ) (leases : List LibraryLease) → held_word library (with_first_ending (release_ending heir) leases) ≡ 0
+given_word library heir leases = no_word library (with_first_ending (release_ending heir) leases) (lease_ended (release_ending heir) leases (λ _. refl))
 
-pub given_count : (heir : ℕ) (leases : List Held) → held_count (ended_first (give_back heir) leases) ≡ 0
-given_count heir leases = count_ended (give_back heir) leases (λ _. refl)
+pub given_count : (heir : ℕ) (leases : List LibraryLease) → held_count (with_first_ending (release_ending heir) leases) ≡ 0
+given_count heir leases = count_ended (release_ending heir) leases (λ _. refl)
 
 -- the word of the lease that is held
-abbrev pub held_as_word : ℕ → List Held → Word
+abbrev pub held_as_word : ℕ → List LibraryLease → Word
 held_as_word library leases = record { lease = held_lease leases; owner = library; standing = Active; count = held_count leases }
 
-some_word : (library : ℕ) (leases : List Held) → 0 < held_lease leases → held_word library leases ≡ held_lease leases * 2 ^ 40 + library * 2 ^ 34 + held_count leases
+some_word : (library : ℕ) (leases : List LibraryLease) → 0 < held_lease leases → held_word library leases ≡ held_lease leases * 2 ^ 40 + library * 2 ^ 34 + held_count leases
 some_word library leases some = if_false (eqb (held_lease leases) 0) 0 (held_lease leases * 2 ^ 40 + library * 2 ^ 34 + held_count leases) (ne_eqb (held_lease leases) 0 (λ e. omega arith))
 
 active_sum : (lease owner count : ℕ) → lease * 2 ^ 40 + owner * 2 ^ 34 + count ≡ number_of (record { lease = lease; owner = owner; standing = Active; count = count })
 unfolding number_of
 active_sum lease owner count = omega arith
 
-pub held_number : (library : ℕ) (leases : List Held) → 0 < held_lease leases → held_word library leases ≡ number_of (held_as_word library leases)
+pub held_number : (library : ℕ) (leases : List LibraryLease) → 0 < held_lease leases → held_word library leases ≡ number_of (held_as_word library leases)
 held_number library leases some = some_word library leases some ∙ active_sum (held_lease leases) library (held_count leases)
 
 -- one send more
@@ -72,21 +74,21 @@ counted_held Running lease count some = refl
 counted_held (GivenBack heir) lease count some = absurd (omega arith)
 counted_held TakenBack lease count some = absurd (omega arith)
 
-pub counted_lease : (leases : List Held) → held_lease (counted_first leases) ≡ held_lease leases
+pub counted_lease : (leases : List LibraryLease) → held_lease (with_one_send leases) ≡ held_lease leases
 counted_lease [] = refl
 counted_lease (h ∷ hs) = refl
 
-pub counted_count : (leases : List Held) → 0 < held_lease leases → held_count (counted_first leases) ≡ held_count leases + 1
+pub counted_count : (leases : List LibraryLease) → 0 < held_lease leases → held_count (with_one_send leases) ≡ held_count leases + 1
 counted_count [] some = absurd (omega arith)
 counted_count (h ∷ hs) some = counted_held h.ending h.lease h.count some
 
-pub counted_word : (library : ℕ) (leases : List Held) → 0 < held_lease leases → held_word library (counted_first leases) ≡ held_word library leases + 1
+pub counted_word : (library : ℕ) (leases : List LibraryLease) → 0 < held_lease leases → held_word library (with_one_send leases) ≡ held_word library leases + 1
 counted_word library leases some =
     let lease = counted_lease leases in
     let count = counted_count leases some in
     let old = some_word library leases some in
-    let new = some_word library (counted_first leases) (omega arith) in
-    new ∙ (ap (λ (n : ℕ). n * 2 ^ 40 + library * 2 ^ 34 + held_count (counted_first leases)) lease ∙ (ap (λ (n : ℕ). held_lease leases * 2 ^ 40 + library * 2 ^ 34 + n) count ∙ omega arith))
+    let new = some_word library (with_one_send leases) (omega arith) in
+    new ∙ (ap (λ (n : ℕ). n * 2 ^ 40 + library * 2 ^ 34 + held_count (with_one_send leases)) lease ∙ (ap (λ (n : ℕ). held_lease leases * 2 ^ 40 + library * 2 ^ 34 + n) count ∙ omega arith))
 
 pub next_number : (lease owner count : ℕ) → number_of (record { lease = lease; owner = owner; standing = Active; count = count }) + 1 ≡ number_of (record { lease = lease; owner = owner; standing = Active; count = count + 1 })
 unfolding number_of
@@ -170,25 +172,25 @@ module _ (base libraries depth : ℕ) (lines : List Line) (library : ℕ) (lane 
           f.5
 
 -- what a library holds that saw a word
-seen_by : (w : Word) (library : ℕ) (leases : List Held) (b : Bool) → shows_lease library w ≡ b → leases_seen library w leases ≡ cond b (cond (eqb (held_lease leases) w.lease) leases (new_lease w.lease ∷ ended_first lost leases)) (ended_first lost leases)
-seen_by w library leases b shows = ap (λ (c : Bool). cond c (cond (eqb (held_lease leases) w.lease) leases (new_lease w.lease ∷ ended_first lost leases)) (ended_first lost leases)) shows
+seen_by : (w : Word) (library : ℕ) (leases : List LibraryLease) (b : Bool) → shows_lease library w ≡ b → leases_after_see library w leases ≡ cond b (cond (eqb (held_lease leases) w.lease) leases (new_lease w.lease ∷ with_first_ending loss_ending leases)) (with_first_ending loss_ending leases)
+seen_by w library leases b shows = ap (λ (c : Bool). cond c (cond (eqb (held_lease leases) w.lease) leases (new_lease w.lease ∷ with_first_ending loss_ending leases)) (with_first_ending loss_ending leases)) shows
 
-seen_lease : (m : ℕ) (leases : List Held) (b : Bool) → eqb (held_lease leases) m ≡ b → held_lease (cond b leases (new_lease m ∷ ended_first lost leases)) ≡ m
+seen_lease : (m : ℕ) (leases : List LibraryLease) (b : Bool) → eqb (held_lease leases) m ≡ b → held_lease (cond b leases (new_lease m ∷ with_first_ending loss_ending leases)) ≡ m
 seen_lease m leases true same = eqb-true (held_lease leases) m same
 seen_lease m leases false other = refl
 
-seen_few : (m sends : ℕ) (leases : List Held) (b : Bool) → held_count leases ≤ sends → held_count (cond b leases (new_lease m ∷ ended_first lost leases)) ≤ sends
+seen_few : (m sends : ℕ) (leases : List LibraryLease) (b : Bool) → held_count leases ≤ sends → held_count (cond b leases (new_lease m ∷ with_first_ending loss_ending leases)) ≤ sends
 seen_few m sends leases true few = few
 seen_few m sends leases false few = omega arith
 
-few_by : (w : Word) (library sends : ℕ) (leases : List Held) (b : Bool) → shows_lease library w ≡ b → held_count leases ≤ sends → held_count (leases_seen library w leases) ≤ sends
+few_by : (w : Word) (library sends : ℕ) (leases : List LibraryLease) (b : Bool) → shows_lease library w ≡ b → held_count leases ≤ sends → held_count (leases_after_see library w leases) ≤ sends
 few_by w library sends leases true shows few = subst (λ hs. held_count hs ≤ sends) (sym (seen_by w library leases true shows)) (seen_few w.lease sends leases (eqb (held_lease leases) w.lease) few)
 few_by w library sends leases false shows few = let none = lost_count leases in subst (λ hs. held_count hs ≤ sends) (sym (seen_by w library leases false shows)) (omega arith)
 
-pub seen_count : (w : Word) (library sends : ℕ) (leases : List Held) → held_count leases ≤ sends → held_count (leases_seen library w leases) ≤ sends
+pub seen_count : (w : Word) (library sends : ℕ) (leases : List LibraryLease) → held_count leases ≤ sends → held_count (leases_after_see library w leases) ≤ sends
 seen_count w library sends leases few = few_by w library sends leases (shows_lease library w) refl few
 
-module _ (base libraries depth : ℕ) (lines : List Line) (library : ℕ) (leases : List Held) (lane : Lane) (are : AreLines base libraries lines) (is : IsLane base depth lines library lane) (n : ℕ) (word : word_in n ≡ word_of lines) (seen : lane.leases ≡ leases_seen library (word_in n) leases) where
+module _ (base libraries depth : ℕ) (lines : List Line) (library : ℕ) (leases : List LibraryLease) (lane : Lane) (are : AreLines base libraries lines) (is : IsLane base depth lines library lane) (n : ℕ) (word : word_in n ≡ word_of lines) (seen : lane.leases ≡ leases_after_see library (word_in n) leases) where
   shown_count : held_lease lane.leases ≡ (word_in n).lease → 0 < held_lease lane.leases → held_count lane.leases ≡ (word_in n).count
   shown_count lease held =
       let f = (held_line base libraries depth lines library lane are is held).2 (lease ∙ ap (λ (v : Word). v.lease) word) in
@@ -201,7 +203,7 @@ module _ (base libraries depth : ℕ) (lines : List Line) (library : ℕ) (lease
       let reads : held_as_word library lane.leases ≡ word_in n = λ i. record { lease = lease i; owner = sym own i; standing = sym (active_by (word_in n).standing active) i; count = count i } in
       held_number library lane.leases held ∙ (ap number_of reads ∙ active_number n active)
 
-  word_by_test : (b : Bool) → shows_lease library (word_in n) ≡ b → held_word library (leases_seen library (word_in n) leases) ≡ cond b n 0
+  word_by_test : (b : Bool) → shows_lease library (word_in n) ≡ b → held_word library (leases_after_see library (word_in n) leases) ≡ cond b n 0
   word_by_test false shows = ap (held_word library) (seen_by (word_in n) library leases false shows) ∙ lost_word library leases
   word_by_test true shows =
       let p = and_parts (nat_lt 0 (word_in n).lease && is_active (word_in n).standing) ((word_in n).owner == library) shows in
@@ -209,5 +211,38 @@ module _ (base libraries depth : ℕ) (lines : List Line) (library : ℕ) (lease
       ap (held_word library) (sym seen) ∙ shown_word (ltb-true 0 (word_in n).lease r.0) (eqb-true (word_in n).owner library p.1) r.1
       (ap held_lease (seen ∙ seen_by (word_in n) library leases true shows) ∙ seen_lease (word_in n).lease leases (eqb (held_lease leases) (word_in n).lease) refl)
 
-  pub seen_word : held_word library (leases_seen library (word_in n) leases) ≡ (if shows_lease library (word_in n) then n else 0)
+  pub seen_word : held_word library (leases_after_see library (word_in n) leases) ≡ (if shows_lease library (word_in n) then n else 0)
   seen_word = word_by_test (shows_lease library (word_in n)) refl
+
+-- A lease that a word shows to be this library's, and that it doesn't hold, is above all its leases.
+still_running : (e : Ending) → FitsEnding e Running → e ≡ Running
+still_running Running fits = refl
+still_running (GivenBack heir) fits = absurd (let no : Running ≡ GivenBack heir = fits in cc)
+still_running TakenBack fits = absurd (let no : Running ≡ TakenBack = fits in cc)
+
+module _ (base library : ℕ) (lines : List Line) (shows : shows_lease library (word_of lines) ≡ true) where
+  lease_below : (h : LibraryLease) → (h.ending ≡ Running → h.lease ≢ length lines) → Stands base lines library h → h.lease < length lines
+  lease_below h free stands =
+      let within : h.lease - 1 < length lines = get_within lines stands.line (h.lease - 1) stands.at in
+      let above : base < h.lease = stands.above in
+      elim (ℕ_discrete h.lease (length lines)) [
+        | yes same ↦
+            let last : last_or no_line lines ≡ stands.line = last_is no_line lines stands.line (h.lease - 1) stands.at (omega arith) in
+            let ran : (last_or no_line lines).ending ≡ Running = (shown_runs (last_or no_line lines).ending (length lines) (last_or no_line lines).library library shows).1 in
+            let e : stands.line.ending ≡ Running = sym (ap (λ (l : Line). l.ending) last) ∙ ran in
+            absurd (free (still_running h.ending (subst (FitsEnding h.ending) e stands.ending)) same)
+        | no other ↦ omega (arith, other)
+      ]
+
+  rest_below : (hs : List LibraryLease) → AllEnded hs → Each (Stands base lines library) hs → AreBelow (length lines) hs
+  rest_below [] ended stand = tt
+  rest_below (h ∷ hs) ended stand = (lease_below h (λ ran same. not_running h.ending ended.0 ran) stand.0, rest_below hs ended.1 stand.1)
+    where
+      not_running : (e : Ending) → runs e ≡ false → e ≡ Running → ⊥
+      not_running Running ended is = cc
+      not_running (GivenBack heir) ended is = cc
+      not_running TakenBack ended is = cc
+
+  pub all_below : (leases : List LibraryLease) → held_lease leases ≢ length lines → FirstRuns leases → Each (Stands base lines library) leases → AreBelow (length lines) leases
+  all_below [] other latest stand = tt
+  all_below (h ∷ hs) other latest stand = (lease_below h (λ ran same. other (ap (λ (e : Ending). held_by e h.lease) ran ∙ same)) stand.0, rest_below hs latest stand.1)

@@ -18,9 +18,9 @@ use Rattle.lease_words.specs.declared.view.LibrarySession.{LibrarySession}
 use Rattle.lease_words.specs.declared.view.LibraryKnows.{LibraryKnows}
 use Rattle.lease_words.specs.declared.view.View.{View}
 use Rattle.lease_words.specs.Layout.{lease_word, slot_of, slot_count}
-use Rattle.lease_words.specs.Leases.{Each, AreLines, IsLineOf, IsNotOlder, EndsLease, held_lease, held_count, ended_first, lost}
+use Rattle.lease_words.specs.Leases.{Each, AreLines, IsLineOf, IsNotOlder, EndsLease, held_lease, held_count, with_first_ending, loss_ending}
 use Rattle.lease_words.specs.Views.{base_of, no_library_session, library_session, library_view}
-use Rattle.lease_words.specs.Sees.{lost_to}
+use Rattle.lease_words.specs.Sees.{after_loss}
 use Rattle.lease_words.specs.Facts.{Lane, Session, IsLane, IsSession, Follows, LibraryFits, one_if}
 use Rattle.lease_words.specs.Rule.{Truth, Ruled, WordsFit, SlotsFit, LibraryKnowsSo}
 use Rattle.lease_words.specs.Tells.{HasLost, LibraryNumbers, held_word}
@@ -259,22 +259,22 @@ module _ (k : Shape) (id : ℕ) (l : LibraryKnows) (s : ℕ) (here : s < k.sessi
   }
 
   abbrev lane_without : Lane
-  lane_without = let y = z.lanes l.number in record { leases = ended_first lost y.leases; items = y.items; taken = y.taken; filling = y.filling; emptying = y.emptying }
+  lane_without = let y = z.lanes l.number in record { leases = with_first_ending loss_ending y.leases; items = y.items; taken = y.taken; filling = y.filling; emptying = y.emptying }
 
-  lost_keeps : EndsLease (held_lease mine.leases) (held_count mine.leases) (word_in found) → Keeps k t l s z.lines lane_without (lost_to mine (word_in found)) l.sending
+  lost_keeps : EndsLease (held_lease mine.leases) (held_count mine.leases) (word_in found) → Keeps k t l s z.lines lane_without (after_loss mine (word_in found)) l.sending
   lost_keeps ends =
       let word = q.words.leases s here in
       let none = lost_count mine.leases in
-      lines_stay lane_without (lost_to mine (word_in found)) l.sending
+      lines_stay lane_without (after_loss mine (word_in found)) l.sending
       (lane_lost (base_of k s) k.libraries k.depth z.lines l.number (z.lanes l.number) (q.sessions s here).are_lines (λ _. subst (λ w. EndsLease (held_lease (z.lanes l.number).leases) (held_count (z.lanes l.number).leases) w) word (subst (λ hs. EndsLease (held_lease hs) (held_count hs) (word_in found)) fits.leases ends)) own)
       refl refl refl
-      (fits_with k.sends l.sending s l z z.lines lane_without (lost_to mine (word_in found)) (ap (ended_first lost) fits.leases) fits.items fits.out (subst (IsShown z.lines) (sym word) (words_shown z.lines), fits.words) fits.taken fits.published (omega arith))
+      (fits_with k.sends l.sending s l z z.lines lane_without (after_loss mine (word_in found)) (ap (with_first_ending loss_ending) fits.leases) fits.items fits.out (subst (IsShown z.lines) (sym word) (words_shown z.lines), fits.words) fits.taken fits.published (omega arith))
       (λ _ _. refl)
 
   -- the exchange fails, and what was held is lost
   pub lost_rule : EndsLease (held_lease mine.leases) (held_count mine.leases) (word_in found)
-      → Ruled k record { words = set st.words (lease_word s) found; homes = st.homes; views = set st.views id (library_view k (knows_with l s (lost_to mine (word_in found)) l.sending)) }
-  lost_rule ends = stays_rule z.lines lane_without (lost_to mine (word_in found)) l.sending (lost_keeps ends) (lease_word s) st.homes refl (slots_same lane_without refl refl refl refl)
+      → Ruled k record { words = set st.words (lease_word s) found; homes = st.homes; views = set st.views id (library_view k (knows_with l s (after_loss mine (word_in found)) l.sending)) }
+  lost_rule ends = stays_rule z.lines lane_without (after_loss mine (word_in found)) l.sending (lost_keeps ends) (lease_word s) st.homes refl (slots_same lane_without refl refl refl refl)
 
   -- the exchange succeeds, and the last line is the library's
   pub last_there : 0 < held_lease mine.leases → found ≡ held_word l.number mine.leases → HasLast z.lines l.number (z.lanes l.number)

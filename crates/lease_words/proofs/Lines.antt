@@ -347,9 +347,9 @@ revoked_of false false = refl
 set_of : (n o : ℕ) → o / 2 ^ 40 ≡ n / 2 ^ 40 → o / 2 ^ 34 % 64 ≡ n / 2 ^ 34 % 64 → o / 2 ^ 32 % 2 ≡ n / 2 ^ 32 % 2 → o / 2 ^ 33 % 2 ≡ 1 → o % 2 ^ 32 ≡ n % 2 ^ 32
     → word_in o ≡ record { lease = (word_in n).lease; owner = (word_in n).owner; standing = revoked_standing (word_in n).standing; count = (word_in n).count }
 unfolding word_in
-set_of n o lease owner released revoked count =
+set_of n o lease owner released after_revoke count =
     let standing : cond (eqb (o / 2 ^ 32 % 2) 1) Released (cond (eqb (o / 2 ^ 33 % 2) 1) Revoked Active) ≡ revoked_standing (cond (eqb (n / 2 ^ 32 % 2) 1) Released (cond (eqb (n / 2 ^ 33 % 2) 1) Revoked Active)) =
-    ap (λ b. cond (eqb (o / 2 ^ 32 % 2) 1) Released (cond (eqb b 1) Revoked Active)) revoked
+    ap (λ b. cond (eqb (o / 2 ^ 32 % 2) 1) Released (cond (eqb b 1) Revoked Active)) after_revoke
     ∙ (ap (λ a. cond (eqb a 1) Released Revoked) released ∙ revoked_of (eqb (n / 2 ^ 32 % 2) 1) (eqb (n / 2 ^ 33 % 2) 1)) in
     λ i. record { lease = lease i; owner = owner i; standing = standing i; count = count i }
 

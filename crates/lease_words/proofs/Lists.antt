@@ -1,5 +1,5 @@
 -- Lists read by `get_elem?`, and facts of each of a list.
-use Rattle.std.proofs.Common.{◌≡◌, ◌⊎◌, ℕ, zero, suc, ◌<◌, List, [], ◌∷◌, ◌++◌, length, refl, sym, ap, inl, inr, ⊎_elim, arith}
+use Rattle.std.proofs.Common.{◌≡◌, ◌⊎◌, ℕ, zero, suc, ◌<◌, List, [], ◌∷◌, ◌++◌, length, get_or, set, refl, sym, ap, inl, inr, ⊎_elim, arith}
 use mathlib.Core.Option.{some, some-injective, some-ne-none}
 use lib.ListN.{get_elem?}
 use Rattle.lease_words.specs.Leases.{Each}
@@ -24,6 +24,16 @@ module _ {A : Type 0} where
   pub each_map : {P Q : A → Type 0} → ((x : A) → P x → Q x) → (xs : List A) → Each P xs → Each Q xs
   each_map f [] e = tt
   each_map f (x ∷ xs) e = (f x e.0, each_map f xs e.1)
+
+  pub each_set : (P : A → Type 0) (xs : List A) (i : ℕ) (x : A) → Each P xs → P x → Each P (set xs i x)
+  each_set P [] i x all is = tt
+  each_set P (y ∷ ys) zero x all is = (is, all.1)
+  each_set P (y ∷ ys) (suc i) x all is = (all.0, each_set P ys i x all.1 is)
+
+  pub each_at : (P : A → Type 0) (xs : List A) (i : ℕ) (d : A) → Each P xs → P d → P (get_or xs i d)
+  each_at P [] i d all is = is
+  each_at P (x ∷ xs) zero d all is = all.0
+  each_at P (x ∷ xs) (suc i) d all is = each_at P xs i d all.1 is
 
   -- of both facts
   pub each_two : (P Q R : A → Type 0) (xs : List A) → ((x : A) → P x → Q x → R x) → Each P xs → Each Q xs → Each R xs

@@ -10,7 +10,7 @@ use Rattle.lease_words.specs.declared.view.EngineKnows.{EngineKnows}
 use Rattle.lease_words.specs.declared.view.LibraryKnows.{LibraryKnows}
 use Rattle.lease_words.specs.Layout.{lease_word}
 use Rattle.lease_words.specs.Views.{engine_session, with_engine_session, engine_view, base_of}
-use Rattle.lease_words.specs.Sees.{looked}
+use Rattle.lease_words.specs.Sees.{after_look}
 use Rattle.lease_words.specs.Facts.{Session}
 use Rattle.lease_words.specs.Rule.{Ruled}
 use Rattle.lease_words.specs.Tells.{LookOf, LookTells}
@@ -31,11 +31,11 @@ module _ (k : Shape) (id : ℕ) (e : EngineKnows) (ls : List LibraryKnows) (s : 
       let is = q.words.leases s here in
       let moves = lines_rest (base_of k s) k.libraries t.lines so.are_lines in
       let mine_now = fits_seen k e.taking s mine t w so fits is in
-      let settled = settled_after k id e ls s here st q at t.lines moves (looked mine w) fits.based (now_all k e.taking s mine t w so fits is) (λ library a b. (fits.lanes library a b).begins) in (
-        engine_view k (with_engine_session e s (looked mine w)) ls,
+      let settled = settled_after k id e ls s here st q at t.lines moves (after_look mine w) fits.based (now_all k e.taking s mine t w so fits is) (λ library a b. (fits.lanes library a b).begins) in (
+        engine_view k (with_engine_session e s (after_look mine w)) ls,
         keeps,
         tt,
-        ruled_after k id e ls s here st q at t.lines moves n (looked mine w) is mine_now,
-        subst (λ z. LookOf z (step slots (lease_word s) 0 0 none) (engine_view k e ls, []) n (engine_view k (with_engine_session e s (looked mine w)) ls, [])) (sym (session-lease_word s))
+        ruled_after k id e ls s here st q at t.lines moves n (after_look mine w) is mine_now,
+        subst (λ z. LookOf z (step slots (lease_word s) 0 0 none) (engine_view k e ls, []) n (engine_view k (with_engine_session e s (after_look mine w)) ls, [])) (sym (session-lease_word s))
             (refl, looked_told k e.taking s mine t w so fits is ls settled),
       )

@@ -1,5 +1,5 @@
 -- Published counts and beats keep the rule.
-use Rattle.std.proofs.Common.{◌≡◌, ◌≢◌, ℕ, ◌+◌, ◌-◌, ◌<◌, ◌≤◌, List, [], get_or, set, Option, refl, sym, ap, ◌∙◌, subst, le_trans, arith, length-set}
+use Rattle.std.proofs.Common.{◌≡◌, ◌≢◌, ℕ, ◌+◌, ◌-◌, ◌<◌, ◌≤◌, List, [], length, get_or, set, Option, refl, sym, ap, ◌∙◌, subst, le_trans, arith, length-set}
 use Rattle.std.proofs.lemmas.List.{get_or-set_same, get_or-set_other}
 use native.Mathlib.Decide.{ℕ_discrete}
 use mathlib.Core.Option.{none, some}
@@ -14,7 +14,7 @@ use Rattle.lease_words.specs.declared.view.LibraryKnows.{LibraryKnows}
 use Rattle.lease_words.specs.declared.view.View.{View}
 use Rattle.lease_words.specs.Layout.{published_word, beat_word}
 use Rattle.lease_words.specs.Views.{engine_session, with_engine_session, library_session, with_library_session, engine_view, library_view, base_of, no_library_session, heard_of, with_heard, unheard}
-use Rattle.lease_words.specs.Sees.{has_published, heard, saw_published, has_beaten}
+use Rattle.lease_words.specs.Sees.{after_publish, after_beats, after_arrival, after_beat}
 use Rattle.lease_words.specs.Facts.{Session, IsSession, EngineFits, LibraryFits}
 use Rattle.lease_words.specs.Rule.{Truth, Ruled, SlotsFit, EngineKnowsSo, LibraryKnowsSo}
 use Rattle.lease_words.specs.Tells.{PublishTells, ListenTells, ArriveTells, BeatTells, PublishOf, ListenOf, ArriveOf}
@@ -33,14 +33,14 @@ module _ (k : Shape) (id : ℕ) (e : EngineKnows) (ls : List LibraryKnows) (s : 
   abbrev counted : Session → ℕ → Session
   counted t n = record { lines = t.lines; shown = t.shown; published = n; lanes = t.lanes }
 
-  published_fits : (t : Session) (new : ℕ) → EngineFits k.libraries (base_of k s) e.taking s t mine → EngineFits k.libraries (base_of k s) e.taking s (counted t new) (has_published mine new)
+  published_fits : (t : Session) (new : ℕ) → EngineFits k.libraries (base_of k s) e.taking s t mine → EngineFits k.libraries (base_of k s) e.taking s (counted t new) (after_publish mine new)
   published_fits t new fits = record { based = fits.based; lines = fits.lines; words = fits.words; published = refl; count = fits.count; lanes = fits.lanes; untaken = fits.untaken }
 
   published_so : (t : Session) (new : ℕ) → IsSession (base_of k s) k.libraries k.depth t → IsSession (base_of k s) k.libraries k.depth (counted t new)
   published_so t new so = record { are_lines = so.are_lines; are_shown = so.are_shown; follows = so.follows; lanes = so.lanes }
 
   published_rule : (new : ℕ) → mine.published ≤ new → (st : Table) (q : Ruled k st) → get_elem? st.views id ≡ some (engine_view k e ls)
-      → Ruled k (stepped st (published_word s) new id [] (engine_view k (with_engine_session e s (has_published mine new)) ls) keeps)
+      → Ruled k (stepped st (published_word s) new id [] (engine_view k (with_engine_session e s (after_publish mine new)) ls) keeps)
   published_rule new more st q at =
       let t = q.truth in
       let so = (q.views id (engine_view k e ls) at).engine refl in
@@ -57,35 +57,35 @@ module _ (k : Shape) (id : ℕ) (e : EngineKnows) (ls : List LibraryKnows) (s : 
         lanes = λ i library. updated_all (λ i (y : Session). i < k.sessions → 1 ≤ library → library ≤ k.libraries → SlotsFit k st.homes i library (y.lanes library)) t.sessions s x
             (λ below a b. q.lanes s library below a b)
             (λ i other below a b. q.lanes i library below a b) i;
-        views = engine_moves k t st.views s x id e (with_engine_session e s (has_published mine new)) ls q.views at
-            (engine_mine k t s x id e (has_published mine new) here (published_fits (t.sessions s) new fits) so)
+        views = engine_moves k t st.views s x id e (with_engine_session e s (after_publish mine new)) ls q.views at
+            (engine_mine k t s x id e (after_publish mine new) here (published_fits (t.sessions s) new fits) so)
             (λ library a b. record { leases = refl; items = refl; filling = refl; taken = omega arith; published = (let same = fits.published in omega arith); words = λ w h. h });
       }
 
   pub publishes_at : (slots new : ℕ) → mine.published ≤ new
       → Allows (Ruled k) slots id (engine_view k e ls, []) (published_word s) (λ _. new) (λ _. PublishTells (step slots (published_word s) new 0 none) (engine_view k e ls, []) new)
   publishes_at slots new more st q size at small = (
-    engine_view k (with_engine_session e s (has_published mine new)) ls,
+    engine_view k (with_engine_session e s (after_publish mine new)) ls,
     keeps,
     tt,
     published_rule new more st q at,
-    subst (λ z. PublishOf z (step slots (published_word s) new 0 none) (engine_view k e ls, []) new (engine_view k (with_engine_session e s (has_published mine new)) ls, [])) (sym (session-published_word s)) refl,
+    subst (λ z. PublishOf z (step slots (published_word s) new 0 none) (engine_view k e ls, []) new (engine_view k (with_engine_session e s (after_publish mine new)) ls, [])) (sym (session-published_word s)) refl,
   )
 
 module _ (k : Shape) (id : ℕ) (e : EngineKnows) (ls : List LibraryKnows) where
   abbrev listened : ℕ → ℕ → EngineKnows
-  listened library r = with_heard e library (heard (heard_of e library) r)
+  listened library r = with_heard e library (after_beats (heard_of e library) r)
 
   listened_so : (t : Truth) (library r : ℕ) → 1 ≤ library → library ≤ k.libraries → r ≡ t.beats library → EngineKnowsSo k t id e → EngineKnowsSo k t id (listened library r)
   listened_so t library r one most is so = record {
     here = so.here;
     count = so.count;
     sessions = so.sessions;
-    beats = length-set e.beats (library - 1) (heard (heard_of e library) r) ∙ so.beats;
+    beats = length-set e.beats (library - 1) (after_beats (heard_of e library) r) ∙ so.beats;
     heard = λ i a b. elim (ℕ_discrete i library) [
-      | yes same ↦ subst (λ (j : ℕ). (get_or (set e.beats (library - 1) (heard (heard_of e library) r)) (j - 1) unheard).count ≤ t.beats j) (sym same)
-          (subst (λ (b : Heard). b.count ≤ t.beats library) (sym (get_or-set_same e.beats (library - 1) (heard (heard_of e library) r) unheard (let n = so.beats in omega arith))) (omega arith))
-      | no other ↦ subst (λ (b : Heard). b.count ≤ t.beats i) (sym (get_or-set_other e.beats (library - 1) (i - 1) (heard (heard_of e library) r) unheard (λ same. other (omega arith)))) (so.heard i a b)
+      | yes same ↦ subst (λ (j : ℕ). (get_or (set e.beats (library - 1) (after_beats (heard_of e library) r)) (j - 1) unheard).count ≤ t.beats j) (sym same)
+          (subst (λ (b : Heard). b.count ≤ t.beats library) (sym (get_or-set_same e.beats (library - 1) (after_beats (heard_of e library) r) unheard (let n = so.beats in omega arith))) (omega arith))
+      | no other ↦ subst (λ (b : Heard). b.count ≤ t.beats i) (sym (get_or-set_other e.beats (library - 1) (i - 1) (after_beats (heard_of e library) r) unheard (λ same. other (omega arith)))) (so.heard i a b)
     ];
   }
 
@@ -113,12 +113,14 @@ module _ (k : Shape) (id : ℕ) (e : EngineKnows) (ls : List LibraryKnows) where
       let r : ℕ = get_or st.words (beat_word k.sessions library) 0 in
       let known : (heard_of e library).count ≤ q.truth.beats library = ((q.views id (engine_view k e ls) at).engine refl).heard library one most in
       let is : r ≡ q.truth.beats library = q.words.beats library one most in
-      let later : (heard_of e library).count ≤ r = omega arith in (
+      let later : (heard_of e library).count ≤ r = omega arith in
+      let kept : (r : ℕ) → length e.beats ≡ k.libraries → heard_of (listened library r) library ≡ after_beats (heard_of e library) r =
+      λ r size. get_or-set_same e.beats (library - 1) (after_beats (heard_of e library) r) unheard (omega arith) in (
         engine_view k (listened library r) ls,
         keeps,
         tt,
         listened_rule library one most st q at,
-        subst (λ z. ListenOf z (step slots (beat_word k.sessions library) 0 0 none) (engine_view k e ls, []) r (engine_view k (listened library r) ls, [])) (sym (beating-beat_word k.sessions library)) (later, refl),
+        subst (λ z. ListenOf z (step slots (beat_word k.sessions library) 0 0 none) (engine_view k e ls, []) r (engine_view k (listened library r) ls, [])) (sym (beating-beat_word k.sessions library)) (later, refl, kept r (((q.views id (engine_view k e ls) at).engine refl).beats)),
       )
 
 module _ (k : Shape) (id : ℕ) (l : LibraryKnows) where
@@ -137,11 +139,11 @@ module _ (k : Shape) (id : ℕ) (l : LibraryKnows) where
     ];
   }
 
-  arrived_fits : (t : Session) (s r : ℕ) (y : LibrarySession) → r ≡ t.published → LibraryFits k.sends l.number l.sending s t y → LibraryFits k.sends l.number l.sending s t (saw_published y r)
+  arrived_fits : (t : Session) (s r : ℕ) (y : LibrarySession) → r ≡ t.published → LibraryFits k.sends l.number l.sending s t y → LibraryFits k.sends l.number l.sending s t (after_arrival y r)
   arrived_fits t s r y is fits = record { leases = fits.leases; items = fits.items; out = fits.out; words = fits.words; taken = fits.taken; published = omega arith; few = fits.few }
 
   abbrev arrived : ℕ → ℕ → LibraryKnows
-  arrived s r = with_library_session l s (saw_published (library_session l s) r)
+  arrived s r = with_library_session l s (after_arrival (library_session l s) r)
 
   arrived_rule : (s : ℕ) → s < k.sessions → (st : Table) (q : Ruled k st) → get_elem? st.views id ≡ some (library_view k l)
       → Ruled k (stepped st (published_word s) (get_or st.words (published_word s) 0) id [] (library_view k (arrived s (get_or st.words (published_word s) 0))) keeps)
@@ -157,7 +159,7 @@ module _ (k : Shape) (id : ℕ) (l : LibraryKnows) where
         slots = q.slots;
         lanes = q.lanes;
         views = views_set k t st.views t id (library_view k (arrived s r))
-            (record { engine = λ is. off is; libraries = (learnt_so t s (saw_published (library_session l s) r) here (arrived_fits (t.sessions s) s r (library_session l s) (q.words.published s here) (me.sessions s here)) me, tt); apart = (tt, tt) })
+            (record { engine = λ is. off is; libraries = (learnt_so t s (after_arrival (library_session l s) r) here (arrived_fits (t.sessions s) s r (library_session l s) (q.words.published s here) (me.sessions s here)) me, tt); apart = (tt, tt) })
             (λ seat v other found. q.views seat v found);
       }
 
@@ -178,7 +180,7 @@ module _ (k : Shape) (id : ℕ) (l : LibraryKnows) where
   abbrev beaten : Truth → ℕ → Truth
   beaten t new = record { sessions = t.sessions; beats = updated t.beats l.number new; engine = t.engine; libraries = t.libraries }
 
-  beaten_mine : (t : Truth) (new : ℕ) → LibraryKnowsSo k t id l → LibraryKnowsSo k (beaten t new) id (has_beaten l new)
+  beaten_mine : (t : Truth) (new : ℕ) → LibraryKnowsSo k t id l → LibraryKnowsSo k (beaten t new) id (after_beat l new)
   beaten_mine t new so = record { from_one = so.from_one; to_last = so.to_last; here = so.here; beats = sym (updated_here t.beats l.number new); count = so.count; sessions = so.sessions }
 
   beaten_library : (t : Truth) (new seat : ℕ) (m : LibraryKnows) → m.number ≢ l.number → LibraryKnowsSo k t seat m → LibraryKnowsSo k (beaten t new) seat m
@@ -194,7 +196,7 @@ module _ (k : Shape) (id : ℕ) (l : LibraryKnows) where
   }
 
   beaten_rule : (new : ℕ) → new ≡ l.beats + 1 → (st : Table) (q : Ruled k st) → get_elem? st.views id ≡ some (library_view k l)
-      → Ruled k (stepped st (beat_word k.sessions l.number) new id [] (library_view k (has_beaten l new)) keeps)
+      → Ruled k (stepped st (beat_word k.sessions l.number) new id [] (library_view k (after_beat l new)) keeps)
   beaten_rule new is st q at =
       let t = q.truth in
       let me = (q.views id (library_view k l) at).libraries.0 in
@@ -206,7 +208,7 @@ module _ (k : Shape) (id : ℕ) (l : LibraryKnows) where
         words = words_beat k st.words t q.shape q.words l.number new me.from_one me.to_last;
         slots = q.slots;
         lanes = q.lanes;
-        views = views_set k t st.views (beaten t new) id (library_view k (has_beaten l new))
+        views = views_set k t st.views (beaten t new) id (library_view k (after_beat l new))
             (record { engine = λ is. off is; libraries = (beaten_mine t new me, tt); apart = (tt, tt) })
             (λ seat v other found. let them = q.views seat v found in record {
               engine = λ is. beaten_engine t new seat v.knows more (them.engine is);
@@ -217,4 +219,4 @@ module _ (k : Shape) (id : ℕ) (l : LibraryKnows) where
 
   pub beats_at : (slots new : ℕ) → new ≡ l.beats + 1
       → Allows (Ruled k) slots id (library_view k l, []) (beat_word k.sessions l.number) (λ _. new) (λ _. BeatTells (step slots (beat_word k.sessions l.number) new 0 none) (library_view k l, []) new)
-  beats_at slots new is st q size at small = (library_view k (has_beaten l new), keeps, tt, beaten_rule new is st q at, refl)
+  beats_at slots new is st q size at small = (library_view k (after_beat l new), keeps, tt, beaten_rule new is st q at, refl)

@@ -18,10 +18,10 @@ use Rattle.lease_words.specs.declared.view.LibraryKnows.{LibraryKnows}
 use Rattle.lease_words.specs.Layout.{lease_word}
 use Rattle.lease_words.specs.Leases.{AreLines, IsLineOf, runs, is_running}
 use Rattle.lease_words.specs.Views.{engine_session, with_engine_session, engine_view, base_of, taken_of, pending}
-use Rattle.lease_words.specs.Sees.{looked, revoked}
+use Rattle.lease_words.specs.Sees.{after_look, after_revoke}
 use Rattle.lease_words.specs.Facts.{Session, Follows}
 use Rattle.lease_words.specs.Rule.{Ruled}
-use Rattle.lease_words.specs.Tells.{RevokeOf, RevokeTells, TookBack, engine_numbers}
+use Rattle.lease_words.specs.Tells.{RevokeOf, RevokeTells, HasRevoked, engine_numbers}
 use Rattle.lease_words.proofs.Lines.{GoesOn, as_front, length_push, last_of_push, word_of_push, with_last_of_push, get_push_here, running_of_push, running_above, lines_on, shown_on, revoked_standing, revoked_word}
 use Rattle.lease_words.proofs.Lanes.{lane_on}
 use Rattle.lease_words.proofs.Totals.{granted_total, total_last}
@@ -155,7 +155,7 @@ module _ (k : Shape) (id : ℕ) (e : EngineKnows) (ls : List LibraryKnows) (s : 
       let new : List Line = taken_back (word_of t.lines).standing t.lines in
       let back : TakesBack (base_of k s) k.libraries t.lines new = takes_back (base_of k s) k.libraries t.lines so.are_lines (last_of t.shown t.lines so.follows (ap is_running (sym fits.lines) ∙ runs)) in
       let now = now_all k e.taking s mine t w so fits is in
-      let es : EngineSession = looked mine w in
+      let es : EngineSession = after_look mine w in
       let seen = fits_seen k e.taking s mine t w so fits is in
       let lines : taken_back w.standing (raised mine.lines w) ≡ new = λ i. taken_back (is i).standing (now i) in
       let mine_now = fits_relined k.libraries (base_of k s) e.taking s (with_lines t t.lines) new (taken_back w.standing (raised mine.lines w)) es seen lines back.moves.words
@@ -163,19 +163,19 @@ module _ (k : Shape) (id : ℕ) (e : EngineKnows) (ls : List LibraryKnows) (s : 
       (subst (λ (z : ℕ × List Line). AreTaken z.0 z.1 library (length (taken_of es library))) (λ i. (fits.based i, now i)) (seen.untaken library a b))) in
       let word : word_in (bit_or n (2 ^ 33)) ≡ word_of new = revoked_word n (omega arith) ∙ (ap flagged is ∙ back.word) in
       let found = settled_after k id e ls s here st q at t.lines (lines_rest (base_of k s) k.libraries t.lines so.are_lines) es fits.based now (λ library a b. (fits.lanes library a b).begins) in
-      let settled = settled_after k id e ls s here st q at new back.moves (revoked mine w) fits.based lines (λ library a b. (fits.lanes library a b).begins) in
+      let settled = settled_after k id e ls s here st q at new back.moves (after_revoke mine w) fits.based lines (λ library a b. (fits.lanes library a b).begins) in
       let look = looked_told k e.taking s mine t w so fits is ls found in
-      let told : TookBack k s mine w ls = record {
+      let told : HasRevoked k s mine w ls = record {
         look = look;
         are_lines = subst (λ (z : ℕ × List Line). AreLines z.0 k.libraries z.1) (λ i. (sym fits.based i, sym lines i)) back.moves.are;
         others = mine_now.untaken;
         settled = settled;
         numbers = still_numbers (base_of k s) k.libraries es t.lines new (taken_back w.standing (raised mine.lines w)) fits.based now lines back ∙ look.numbers;
       } in (
-        engine_view k (with_engine_session e s (revoked mine w)) ls,
+        engine_view k (with_engine_session e s (after_revoke mine w)) ls,
         keeps,
         tt,
-        ruled_after k id e ls s here st q at new back.moves (bit_or n (2 ^ 33)) (revoked mine w) word mine_now,
-        subst (λ z. RevokeOf z (step slots (lease_word s) (2 ^ 33) 0 none) (engine_view k e ls, []) n (engine_view k (with_engine_session e s (revoked mine w)) ls, [])) (sym (session-lease_word s))
+        ruled_after k id e ls s here st q at new back.moves (bit_or n (2 ^ 33)) (after_revoke mine w) word mine_now,
+        subst (λ z. RevokeOf z (step slots (lease_word s) (2 ^ 33) 0 none) (engine_view k e ls, []) n (engine_view k (with_engine_session e s (after_revoke mine w)) ls, [])) (sym (session-lease_word s))
             (refl, told),
       )

@@ -13,18 +13,13 @@ use Rattle.lease_words.specs.declared.view.LibraryKnows.{LibraryKnows}
 use Rattle.lease_words.specs.Layout.{session_at, lease_word, taken_word, slot_of}
 use Rattle.lease_words.specs.Leases.{held_lease}
 use Rattle.lease_words.specs.Views.{library_view, first_library, library_session, with_library_session, no_library_session}
-use Rattle.lease_words.specs.Sees.{lost_to, sending_to}
+use Rattle.lease_words.specs.Sees.{after_loss, with_sending}
 use Rattle.lease_words.specs.Rule.{Ruled}
 use Rattle.lease_words.specs.Tells.{Seated, CommitOf, CommitTells, HandBackTells, HasLost, HasSent, held_word}
 use Rattle.lease_words.specs.Answers.{IsOffering, HasOffered, HasFailed}
 use Rattle.lease_words.proofs.Places.{session-lease_word}
 use Rattle.lease_words.proofs.Sends.{commits_at, hands_back_at}
-
--- a session that holds a lease is one of the seat's
-pub held_within : (xs : List LibrarySession) (s : ℕ) → 0 < held_lease (get_or xs s no_library_session).leases → s < length xs
-held_within [] s held = absurd (omega arith)
-held_within (x ∷ xs) zero held = omega arith
-held_within (x ∷ xs) (suc s) held = let h = held_within xs s held in omega arith
+use Rattle.lease_words.proofs.LibraryCalls.{held_within}
 
 module _ (k : Shape) (s number slot word : ℕ) (item : Item) (me : Seated) (is : IsOffering k s number slot word me) where
   abbrev l : LibraryKnows
@@ -34,7 +29,7 @@ module _ (k : Shape) (s number slot word : ℕ) (item : Item) (me : Seated) (is 
   ls = library_session l s
 
   abbrev lost_knows : ℕ → LibraryKnows
-  lost_knows r = with_library_session l s (lost_to ls (word_in r))
+  lost_knows r = with_library_session l s (after_loss ls (word_in r))
 
   -- the seat with the item in the slot
   filled : (me' : Seated) → me' ≡ (me.0, (slot, Some item) ∷ rest me.1) → me' ≡ (library_view k l, (slot, Some item) ∷ [])
@@ -74,8 +69,8 @@ module _ (k : Shape) (s number slot word : ℕ) (item : Item) (me : Seated) (is 
       empty_slot = emptied ∙ ap (λ (m : Seated). (m.0, (slot, None) ∷ rest m.1)) (commit_lost other).0
 
       -- the session has the items that it had
-      same_items : library_session (lost_knows r) s ≡ lost_to ls (word_in r)
-      same_items = get_or-set_same l.sessions s (lost_to ls (word_in r)) no_library_session (held_within l.sessions s is.held)
+      same_items : library_session (lost_knows r) s ≡ after_loss ls (word_in r)
+      same_items = get_or-set_same l.sessions s (after_loss ls (word_in r)) no_library_session (held_within l.sessions s is.held)
 
       pub hand_back_step : (id j : ℕ) → s < k.sessions → j ≡ taken_word s number → Allows (Ruled k) slots id me3 j (λ n. n) (HandBackTells (step slots j 0 0 none) me3)
       hand_back_step id j here lane =
@@ -87,4 +82,4 @@ module _ (k : Shape) (s number slot word : ℕ) (item : Item) (me : Seated) (is 
           (hands_back_at k id (lost_knows r) s here slots is.filling)
 
       pub hand_back_failed : (j x : ℕ) (me4 : Seated) → HandBackTells (step slots j 0 0 none) me3 x me4 → HasFailed k s number r me me4
-      hand_back_failed j x me4 tells = (tells ∙ ap (λ (m : Seated). (library_view m.0.shape (sending_to (first_library m.0.libraries) 0), [])) empty_slot, (commit_lost other).1)
+      hand_back_failed j x me4 tells = (tells ∙ ap (λ (m : Seated). (library_view m.0.shape (with_sending (first_library m.0.libraries) 0), [])) empty_slot, (commit_lost other).1)

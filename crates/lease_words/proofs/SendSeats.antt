@@ -20,17 +20,16 @@ use Rattle.lease_words.specs.declared.rows.LibraryRow.{LibraryRow}
 use Rattle.lease_words.specs.Layout.{session_at, taken_word, slot_of}
 use Rattle.lease_words.specs.Leases.{held_lease, held_count}
 use Rattle.lease_words.specs.Views.{TableRef, LibraryView, library_view, first_library, library_session, with_library_session, no_library_session}
-use Rattle.lease_words.specs.Sees.{sent, lost_to, sending_to, saw_taken}
+use Rattle.lease_words.specs.Sees.{after_send, after_loss, with_sending, after_taken_load}
 use Rattle.lease_words.specs.Rule.{Ruled, IsShape}
-use Rattle.lease_words.specs.Tells.{Seated, SawTaken, is_refused, ClaimOf, ClaimTells, HasLost, HasSent, LibraryNumbers, library_numbers}
-use Rattle.lease_words.specs.Tokens.{library_row, IsTable, IsLibrary}
+use Rattle.lease_words.specs.Tells.{Seated, HasFoundTaken, is_refused, ClaimOf, ClaimTells, HasLost, HasSent, LibraryNumbers, library_numbers}
+use Rattle.lease_words.specs.Tokens.{library_row, CountsFit, IsTable, IsLibrary}
 use Rattle.lease_words.specs.Answers.{active_word, HasLoaded, IsLoss, HasOffered, HasFailed}
 use Rattle.lease_words.proofs.Lines.{word_parts}
-use Rattle.lease_words.proofs.LibraryHolds.{held_number, next_number}
-use Rattle.lease_words.proofs.LibraryCalls.{library_rests, library_row_at, still_library, same_library}
+use Rattle.lease_words.proofs.LibraryHolds.{held_number, next_number, counted_count, lost_count}
+use Rattle.lease_words.proofs.LibraryCalls.{held_within, library_rests, library_row_at, still_library, same_library}
 use Rattle.lease_words.proofs.Places.{session-taken_word}
 use Rattle.lease_words.proofs.Sends.{claims_at}
-use Rattle.lease_words.proofs.SendCalls.{held_within}
 
 -- the load of a send
 pub claim_step : (seat : Seat (Option Item) View) (number beats : ℕ) (rows : List LibraryRow) (k : Shape) (slots id s i : ℕ) → IsLibrary seat number beats rows → seat.me.0.shape ≡ k → s < k.sessions → i ≡ taken_word s number
@@ -53,10 +52,10 @@ pub record Loaded (seat seat' : Seat (Option Item) View) (number beats : ℕ) (r
   pub row_is : row ≡ library_row number (library_session l s)
   pub lease_some : 0 < lease
   pub lease_is : held_lease (library_session l s).leases ≡ lease
-  pub saw : SawTaken k (library_session l s) r
+  pub saw : HasFoundTaken k (library_session l s) r
   pub told : MatchBool (is_refused k (length (library_session l s).items) r (held_count (library_session l s).leases))
-      (seat'.me ≡ (library_view k (with_library_session l s (saw_taken (library_session l s) r)), []))
-      (seat'.me ≡ (library_view k (sending_to (with_library_session l s (saw_taken (library_session l s) r)) (suc s)), (slot_of k.libraries s l.number (length (library_session l s).items), None) ∷ []))
+      (seat'.me ≡ (library_view k (with_library_session l s (after_taken_load (library_session l s) r)), []))
+      (seat'.me ≡ (library_view k (with_sending (with_library_session l s (after_taken_load (library_session l s) r)) (suc s)), (slot_of k.libraries s l.number (length (library_session l s).items), None) ∷ []))
 
 pub loaded : (seat seat' : Seat (Option Item) View) (number beats : ℕ) (rows : List LibraryRow) (key : Shape) (table : TableId) (sessions libraries depth sends s slots i r lease : ℕ) (row : LibraryRow) (t : TableRef) (v : LibraryView)
     → IsTable key table sessions libraries depth sends → record { shape = key; table = table } ≡ t → IsLibrary seat number beats rows → record { table = record { shape = seat.me.0.shape; table = seat.table_id }; knows = first_library seat.me.0.libraries } ≡ v
@@ -95,7 +94,7 @@ module _ (seat seat' : Seat (Option Item) View) (number beats : ℕ) (rows : Lis
   ls = library_session l s
 
   abbrev after : LibrarySession
-  after = saw_taken ls r
+  after = after_taken_load ls r
 
   abbrev refused : Bool
   refused = is_refused k (length ls.items) r (held_count ls.leases)
@@ -141,13 +140,13 @@ module _ (seat seat' : Seat (Option Item) View) (number beats : ℕ) (rows : Lis
   not_refused a b = or_from (length ls.items == r + k.depth) (held_count ls.leases == k.sends) (ne_eqb (length ls.items) (r + k.depth) (not_full a)) (ne_eqb (held_count ls.leases) k.sends (not_spent b))
 
   -- the seat stays a library's
-  still : (seat'' : Seat (Option Item) View) (y : LibrarySession) (row' : LibraryRow) → seat''.me ≡ (library_view k (with_library_session l s y), []) → row' ≡ library_row number y → IsLibrary seat'' number beats (set rows s row')
-  still seat'' y row' me row_is = still_library seat number beats rows k x.is x.shape seat'' s y row' (me ∙ ap (λ (l : LibraryKnows). (library_view k (with_library_session l s y), [])) (sym x.knows)) row_is
+  still : (seat'' : Seat (Option Item) View) (y : LibrarySession) (row' : LibraryRow) → seat''.me ≡ (library_view k (with_library_session l s y), []) → row' ≡ library_row number y → CountsFit y → IsLibrary seat'' number beats (set rows s row')
+  still seat'' y row' me row_is fits = still_library seat number beats rows k x.is x.shape seat'' s y row' (me ∙ ap (λ (l : LibraryKnows). (library_view k (with_library_session l s y), [])) (sym x.knows)) row_is fits
 
   refused_library : refused ≡ true → IsLibrary seat' number beats rows
   refused_library e =
       same_library seat number beats rows k x.is x.shape seat' s after x.here (when_true _ _ e x.told ∙ ap (λ (l : LibraryKnows). (library_view k (with_library_session l s after), [])) (sym x.knows))
-      (ap (λ (l : LibraryKnows). library_row number (library_session l s)) (sym x.knows))
+      (ap (λ (l : LibraryKnows). library_row number (library_session l s)) (sym x.knows)) (let a = x.saw.spent in let b = x.sizes.sends in omega arith)
 
   pub full_library : row.committed - r ≡ depth → IsLibrary seat' number beats rows
   full_library e = refused_library (full_refused e)
@@ -174,7 +173,7 @@ module _ (seat seat' : Seat (Option Item) View) (number beats : ℕ) (rows : Lis
 
   module _ (some_room : row.committed - r ≢ depth) (some_left : row.word % 4294967296 ≢ sends) where
     abbrev out : LibraryKnows
-    out = sending_to (with_library_session l s after) (suc s)
+    out = with_sending (with_library_session l s after) (suc s)
 
     out_is : first_library seat'.me.0.libraries ≡ out
     out_is = ap (λ (m : Seated). first_library m.0.libraries) (when_false _ _ (not_refused some_room some_left) x.told)
@@ -187,18 +186,18 @@ module _ (seat seat' : Seat (Option Item) View) (number beats : ℕ) (rows : Lis
 
     -- the seat with the slot back
     back : (seat'' : Seat (Option Item) View) (f : LibrarySession → LibrarySession)
-        → seat''.me ≡ (library_view k (sending_to (with_library_session (first_library seat'.me.0.libraries) s (f (library_session (first_library seat'.me.0.libraries) s))) 0), [])
+        → seat''.me ≡ (library_view k (with_sending (with_library_session (first_library seat'.me.0.libraries) s (f (library_session (first_library seat'.me.0.libraries) s))) 0), [])
         → seat''.me ≡ (library_view k (with_library_session l s (f after)), [])
     back seat'' f me =
-        me ∙ ((λ j. (library_view k (sending_to (with_library_session (out_is j) s (f (session_is j))) 0), []))
-        ∙ (λ j. (library_view k (record { number = l.number; sessions = set-set l.sessions s after (f after) j; beats = l.beats; sending = idle j }), [])))
+        me ∙ ((λ j. (library_view k (with_sending (with_library_session (out_is j) s (f (session_is j))) 0), []))
+        ∙ (λ j. (library_view k (record l { sessions = set-set l.sessions s after (f after) j; sending = idle j }), [])))
 
     module _ (seat'' : Seat (Option Item) View) (item : Item) (offered : HasOffered k s number row.word item seat'.me seat''.me) where
       abbrev sent_after : LibrarySession
-      sent_after = sent after (item ∷ []) (word_in (row.word + 1))
+      sent_after = after_send after (item ∷ []) (word_in (row.word + 1))
 
       sent_me : seat''.me ≡ (library_view k (with_library_session l s sent_after), [])
-      sent_me = back seat'' (λ y. sent y (item ∷ []) (word_in (row.word + 1))) offered.0
+      sent_me = back seat'' (λ y. after_send y (item ∷ []) (word_in (row.word + 1))) offered.0
 
       sent_word : word_in (row.word + 1) ≡ active_word lease l.number (held_count ls.leases + 1)
       sent_word =
@@ -214,16 +213,17 @@ module _ (seat seat' : Seat (Option Item) View) (number beats : ℕ) (rows : Lis
           (subst (λ (y : LibrarySession). HasSent number y (item ∷ []) (row.word + 1)) session_is offered.1).numbers in
           still seat'' sent_after (record { word = row.word + 1; committed = row.committed + 1 }) sent_me
           (λ j. record { word = (ap (λ (n : LibraryNumbers). n.word) (sym numbers)) j; committed = (ap (λ (n : ℕ). n + 1) committed_is ∙ ap (λ (n : LibraryNumbers). n.committed) (sym numbers)) j })
+          (let a = x.saw.spent in let b = x.sizes.sends in let c = not_spent some_left in let d = counted_count ls.leases held in omega arith)
 
       pub sent_others : (t : TableRef) → seat''.table_id ≡ seat.table_id → record { shape = seat.me.0.shape; table = seat.table_id } ≡ t
           → ◌≡◌ {A = LibraryView} (record { table = record { shape = seat''.me.0.shape; table = seat''.table_id }; knows = first_library seat''.me.0.libraries })
           (record { table = t; knows = with_library_session l s (library_session (first_library seat''.me.0.libraries) s) })
       sent_others t = view_after seat'' sent_after t sent_me
 
-      pub sent_committed : library_session (first_library seat''.me.0.libraries) s ≡ sent (saw_taken ls (library_session (first_library seat''.me.0.libraries) s).taken) (item ∷ []) (active_word lease l.number (held_count ls.leases + 1))
+      pub sent_committed : library_session (first_library seat''.me.0.libraries) s ≡ after_send (after_taken_load ls (library_session (first_library seat''.me.0.libraries) s).taken) (item ∷ []) (active_word lease l.number (held_count ls.leases + 1))
       sent_committed =
           let now : library_session (first_library seat''.me.0.libraries) s ≡ sent_after = session_after seat'' sent_after sent_me in
-          now ∙ (λ j. sent (saw_taken ls (sym (ap (λ (y : LibrarySession). y.taken) now) j)) (item ∷ []) (sent_word j))
+          now ∙ (λ j. after_send (after_taken_load ls (sym (ap (λ (y : LibrarySession). y.taken) now) j)) (item ∷ []) (sent_word j))
 
       sent_taken : (library_session (first_library seat''.me.0.libraries) s).taken ≡ r
       sent_taken = ap (λ (y : LibrarySession). y.taken) (session_after seat'' sent_after sent_me)
@@ -236,10 +236,10 @@ module _ (seat seat' : Seat (Option Item) View) (number beats : ℕ) (rows : Lis
 
     module _ (seat'' : Seat (Option Item) View) (found : ℕ) (failed : HasFailed k s number found seat'.me seat''.me) where
       abbrev lost_after : LibrarySession
-      lost_after = lost_to after (word_in found)
+      lost_after = after_loss after (word_in found)
 
       lost_me : seat''.me ≡ (library_view k (with_library_session l s lost_after), [])
-      lost_me = back seat'' (λ y. lost_to y (word_in found)) failed.0
+      lost_me = back seat'' (λ y. after_loss y (word_in found)) failed.0
 
       has_lost : HasLost number after found
       has_lost = subst (λ (y : LibrarySession). HasLost number y found) session_is failed.1
@@ -250,6 +250,7 @@ module _ (seat seat' : Seat (Option Item) View) (number beats : ℕ) (rows : Lis
           let same : row' ≡ library_row number ls = library_row_at seat number beats rows k x.is x.shape s row' x.here row_at ∙ ap (λ (l : LibraryKnows). library_row number (library_session l s)) x.knows in
           still seat'' lost_after (record { word = 0; committed = row'.committed }) lost_me
           (λ j. record { word = (ap (λ (n : LibraryNumbers). n.word) (sym numbers)) j; committed = (ap (λ (r : LibraryRow). r.committed) same ∙ ap (λ (n : LibraryNumbers). n.committed) (sym numbers)) j })
+          (let none = lost_count ls.leases in omega arith)
 
       pub lost_others : (t : TableRef) → seat''.table_id ≡ seat.table_id → record { shape = seat.me.0.shape; table = seat.table_id } ≡ t
           → ◌≡◌ {A = LibraryView} (record { table = record { shape = seat''.me.0.shape; table = seat''.table_id }; knows = first_library seat''.me.0.libraries })
@@ -261,7 +262,7 @@ module _ (seat seat' : Seat (Option Item) View) (number beats : ℕ) (rows : Lis
 
       pub lost_refused : (seen : Word) → seen ≡ word_in found
           → IsLoss ls seen × (held_count ls.leases ≢ k.sends) × (length ls.items ≢ (library_session (first_library seat''.me.0.libraries) s).taken + k.depth)
-          × (library_session (first_library seat''.me.0.libraries) s ≡ lost_to (saw_taken ls (library_session (first_library seat''.me.0.libraries) s).taken) seen)
+          × (library_session (first_library seat''.me.0.libraries) s ≡ after_loss (after_taken_load ls (library_session (first_library seat''.me.0.libraries) s).taken) seen)
       lost_refused seen seen_is =
           let now : library_session (first_library seat''.me.0.libraries) s ≡ lost_after = session_after seat'' lost_after lost_me in
           let taken : (library_session (first_library seat''.me.0.libraries) s).taken ≡ r = ap (λ (y : LibrarySession). y.taken) now in
@@ -269,5 +270,5 @@ module _ (seat seat' : Seat (Option Item) View) (number beats : ℕ) (rows : Lis
             subst (IsLoss ls) (sym seen_is) loss,
             not_spent some_left,
             subst (λ (n : ℕ). length ls.items ≢ n + k.depth) (sym taken) (not_full some_room),
-            now ∙ (λ j. lost_to (saw_taken ls (sym taken j)) (sym seen_is j)),
+            now ∙ (λ j. after_loss (after_taken_load ls (sym taken j)) (sym seen_is j)),
           )

@@ -18,12 +18,12 @@ use Rattle.lease_words.specs.declared.view.LibrarySession.{LibrarySession}
 use Rattle.lease_words.specs.declared.view.LibraryKnows.{LibraryKnows}
 use Rattle.lease_words.specs.declared.view.View.{View}
 use Rattle.lease_words.specs.Layout.{lease_word, taken_word, slot_of}
-use Rattle.lease_words.specs.Leases.{AreLines, held_lease, held_count, counted_first, IsLineOf, FitsHeir}
-use Rattle.lease_words.specs.Sees.{sent, lost_to, sending_to, saw_taken}
+use Rattle.lease_words.specs.Leases.{AreLines, held_lease, held_count, with_one_send, IsLineOf, FitsHeir}
+use Rattle.lease_words.specs.Sees.{after_send, after_loss, with_sending, after_taken_load}
 use Rattle.lease_words.specs.Facts.{Lane, Session, IsLane, LibraryFits, one_if}
 use Rattle.lease_words.specs.Views.{base_of, library_session, no_library_session, with_library_session, library_view}
 use Rattle.lease_words.specs.Rule.{Ruled, LibraryKnowsSo, SlotsFit}
-use Rattle.lease_words.specs.Tells.{HasLost, HasSent, SawTaken, is_refused, ClaimOf, CommitOf, Seated, ClaimTells, CommitTells, HandBackTells, held_word}
+use Rattle.lease_words.specs.Tells.{HasLost, HasSent, HasFoundTaken, is_refused, ClaimOf, CommitOf, Seated, ClaimTells, CommitTells, HandBackTells, held_word}
 use Rattle.lease_core.proofs.WordsShown.{words_shown}
 use Rattle.lease_words.proofs.Lines.{GoesOn, shown_on, word_of_push, word_parts, total_small}
 use Rattle.lease_words.proofs.Lanes.{lane_sent}
@@ -94,7 +94,7 @@ module _ (k : Shape) (id : ℕ) (l : LibraryKnows) (s : ℕ) (here : s < k.sessi
         line_on = record { library = f.line.library; sends = f.line.sends + 1; ending = f.line.ending }
 
         abbrev lane_longer : Lane
-        lane_longer = record { leases = counted_first lane.leases; items = lane.items ++ item ∷ []; taken = lane.taken; filling = 0; emptying = lane.emptying }
+        lane_longer = record { leases = with_one_send lane.leases; items = lane.items ++ item ∷ []; taken = lane.taken; filling = 0; emptying = lane.emptying }
 
         count_is : held_count mine.leases ≡ f.line.sends
         count_is = ap held_count fits.leases ∙ sym f.sends
@@ -119,15 +119,15 @@ module _ (k : Shape) (id : ℕ) (l : LibraryKnows) (s : ℕ) (here : s < k.sessi
               heir = subst (FitsHeir libraries f.line.library) (sym f.ran) tt;
             }
 
-        sent_keeps : Keeps k q.truth l s (f.front ++ line_on ∷ []) lane_longer (sent mine (item ∷ []) (word_in new)) 0
+        sent_keeps : Keeps k q.truth l s (f.front ++ line_on ∷ []) lane_longer (after_send mine (item ∷ []) (word_in new)) 0
         sent_keeps =
             let on : GoesOn f.line line_on = record { ran = f.ran; whose = refl; more = omega arith } in
             let are : AreLines (base_of k s) k.libraries (f.front ++ f.line ∷ []) = subst (AreLines (base_of k s) k.libraries) f.lines_are (q.sessions s here).are_lines in
             let more = counted_count mine.leases held in
-            lines_move k id l s here st q at f.front f.line line_on lane_longer (sent mine (item ∷ []) (word_in new)) 0 f.lines_are f.whose on (inl f.ran) (sent_known 16 q.shape.libraries) (sent_known k.libraries (omega arith))
+            lines_move k id l s here st q at f.front f.line line_on lane_longer (after_send mine (item ∷ []) (word_in new)) 0 f.lines_are f.whose on (inl f.ran) (sent_known 16 q.shape.libraries) (sent_known k.libraries (omega arith))
             (lane_sent (base_of k s) k.libraries k.depth f.front f.line l.number item lane are f.ran f.whose f.lease full (subst (λ ls. IsLane (base_of k s) k.depth ls l.number lane) f.lines_are own))
             (item ∷ [], refl) refl refl
-            (fits_with k.sends 0 s l z (f.front ++ line_on ∷ []) lane_longer (sent mine (item ∷ []) (word_in new)) (ap counted_first fits.leases) (ap (λ ls. ls ++ item ∷ []) fits.items) (none_out s) (
+            (fits_with k.sends 0 s l z (f.front ++ line_on ∷ []) lane_longer (after_send mine (item ∷ []) (word_in new)) (ap with_one_send fits.leases) (ap (λ ls. ls ++ item ∷ []) fits.items) (none_out s) (
               subst (IsShown (f.front ++ line_on ∷ [])) (sym sent_reads) (words_shown (f.front ++ line_on ∷ [])),
               each_map (λ w shown. shown_on f.front f.line line_on w on (subst (λ ls. IsShown ls w) f.lines_are shown)) mine.words fits.words,
             )
@@ -139,8 +139,8 @@ module _ (k : Shape) (id : ℕ) (l : LibraryKnows) (s : ℕ) (here : s < k.sessi
             (slots_change k id l s here st q at lane_longer (length lane.items) (some (Some item))
             (slots_filled k st.homes s l.number so.from_one so.to_last item lane lane_longer full own.behind next_room next_within refl refl refl refl (q.lanes s l.number here so.from_one so.to_last)))
 
-        sent_rule : Ruled k (stepped st (lease_word s) new id ((slot_of k.libraries s l.number (length mine.items), Some item) ∷ []) (library_view k (sending_to (with_library_session l s (sent mine (item ∷ []) (word_in new))) 0)) gives)
-        sent_rule = word_rule k id l s here st q at (f.front ++ line_on ∷ []) lane_longer (sent mine (item ∷ []) (word_in new)) 0 sent_keeps new (set st.homes (slot_of k.libraries s l.number (length mine.items)) (some (Some item))) sent_reads sent_slots
+        sent_rule : Ruled k (stepped st (lease_word s) new id ((slot_of k.libraries s l.number (length mine.items), Some item) ∷ []) (library_view k (with_sending (with_library_session l s (after_send mine (item ∷ []) (word_in new))) 0)) gives)
+        sent_rule = word_rule k id l s here st q at (f.front ++ line_on ∷ []) lane_longer (after_send mine (item ∷ []) (word_in new)) 0 sent_keeps new (set st.homes (slot_of k.libraries s l.number (length mine.items)) (some (Some item))) sent_reads sent_slots
 
       -- the slot came back empty
       abbrev lane_back : Lane
@@ -158,7 +158,7 @@ module _ (k : Shape) (id : ℕ) (l : LibraryKnows) (s : ℕ) (here : s < k.sessi
           (slots_change k id l s here st q at lane_back (length lane.items) (some None)
           (slots_unused k st.homes s l.number so.from_one so.to_last lane lane_back full own.behind next_room next_within refl refl refl refl (q.lanes s l.number here so.from_one so.to_last)))
 
-      back_rule : Ruled k (stepped st (taken_word s l.number) (get_or st.words (taken_word s l.number) 0) id ((slot_of k.libraries s l.number (length mine.items), None) ∷ []) (library_view k (sending_to l 0)) gives)
+      back_rule : Ruled k (stepped st (taken_word s l.number) (get_or st.words (taken_word s l.number) 0) id ((slot_of k.libraries s l.number (length mine.items), None) ∷ []) (library_view k (with_sending l 0)) gives)
       back_rule =
           subst (λ (ss : List LibrarySession). Ruled k (stepped st (taken_word s l.number) (get_or st.words (taken_word s l.number) 0) id ((slot_of k.libraries s l.number (length mine.items), None) ∷ [])
           (library_view k record { number = l.number; sessions = ss; beats = l.beats; sending = 0 }) gives))
@@ -173,8 +173,8 @@ module _ (k : Shape) (id : ℕ) (l : LibraryKnows) (s : ℕ) (here : s < k.sessi
       Commits item new b =
           (v : View) × (a : Act (Option Item)) × Valid st.homes (carried item) a × Ruled k (stepped st (lease_word s) (either b new found) id (carried item) v a)
           × MatchBool b
-          ((◌≡◌ {A = Seated} (v, carried_after (carried item) a) (library_view k (sending_to (with_library_session l s (sent mine (item ∷ []) (word_in new))) 0), [])) × HasSent l.number mine (item ∷ []) new)
-          ((◌≡◌ {A = Seated} (v, carried_after (carried item) a) (library_view k (with_library_session l s (lost_to mine (word_in found))), carried item)) × HasLost l.number mine found)
+          ((◌≡◌ {A = Seated} (v, carried_after (carried item) a) (library_view k (with_sending (with_library_session l s (after_send mine (item ∷ []) (word_in new))) 0), [])) × HasSent l.number mine (item ∷ []) new)
+          ((◌≡◌ {A = Seated} (v, carried_after (carried item) a) (library_view k (with_library_session l s (after_loss mine (word_in found))), carried item)) × HasLost l.number mine found)
 
       committed_as : (item : Item) (old new : ℕ) → 0 < held_lease mine.leases → held_count mine.leases < k.sends → old ≡ held_word l.number mine.leases → new ≡ old + 1 → (b : Bool) → eqb found old ≡ b → Commits item new b
       committed_as item old new held room is makes true same =
@@ -185,12 +185,12 @@ module _ (k : Shape) (id : ℕ) (l : LibraryKnows) (s : ℕ) (here : s < k.sessi
           let low : l.number < 64 = let a = so.to_last in let n = q.shape.libraries in omega arith in
           let reads : word_in new ≡ record { lease = held_lease mine.leases; owner = l.number; standing = Active; count = held_count mine.leases + 1 } =
           ap word_in made ∙ word_parts (record { lease = held_lease mine.leases; owner = l.number; standing = Active; count = held_count mine.leases + 1 }) low few in
-          let word : held_word l.number (counted_first mine.leases) ≡ new = counted_word l.number mine.leases held ∙ sym (makes ∙ ap (λ (n : ℕ). n + 1) is) in
+          let word : held_word l.number (with_one_send mine.leases) ≡ new = counted_word l.number mine.leases held ∙ sym (makes ∙ ap (λ (n : ℕ). n + 1) is) in
           let size : length (mine.items ++ item ∷ []) ≡ length mine.items + 1 = length-append mine.items (item ∷ []) in
-          (library_view k (sending_to (with_library_session l s (sent mine (item ∷ []) (word_in new))) 0), gives, tt, sent_rule item new held room reads f, (refl, record { numbers = λ i. record { word = word i; committed = size i } }))
+          (library_view k (with_sending (with_library_session l s (after_send mine (item ∷ []) (word_in new))) 0), gives, tt, sent_rule item new held room reads f, (refl, record { numbers = λ i. record { word = word i; committed = size i } }))
       committed_as item old new held room is makes false other =
           let ends = ends_there k id l s here st q at held (λ e. eqb-false found old other (e ∙ sym is)) in
-          (library_view k (with_library_session l s (lost_to mine (word_in found))), keeps, tt, lost_rule k id l s here st q at ends, (refl, has_lost k id l s here st q at ends))
+          (library_view k (with_library_session l s (after_loss mine (word_in found))), keeps, tt, lost_rule k id l s here st q at ends, (refl, has_lost k id l s here st q at ends))
 
     -- the load of a send
     module _ (rests : l.sending ≡ 0) where
@@ -203,7 +203,7 @@ module _ (k : Shape) (id : ℕ) (l : LibraryKnows) (s : ℕ) (here : s < k.sessi
       empty : lane.filling ≡ 0
       empty = fits.out ∙ (ap (λ (n : ℕ). one_if (n == suc s)) rests ∙ sym (none_out s))
 
-      told : SawTaken k mine taken
+      told : HasFoundTaken k mine taken
       told =
           let is = taken_is in
           let size : length mine.items ≡ length lane.items = ap length fits.items in
@@ -215,7 +215,7 @@ module _ (k : Shape) (id : ℕ) (l : LibraryKnows) (s : ℕ) (here : s < k.sessi
           record { later = omega arith; behind = omega arith; within = omega arith; few = omega arith; spent = fits.few }
 
       abbrev after : LibrarySession
-      after = saw_taken mine taken
+      after = after_taken_load mine taken
 
       refused_rule : Ruled k (stepped st (taken_word s l.number) taken id [] (library_view k (with_library_session l s after)) keeps)
       refused_rule = stays_rule k id l s here st q at z.lines lane after l.sending
@@ -244,7 +244,7 @@ module _ (k : Shape) (id : ℕ) (l : LibraryKnows) (s : ℕ) (here : s < k.sessi
         claim_there : get_elem? st.homes (slot_of k.libraries s l.number (length mine.items)) ≡ some (some None)
         claim_there = subst (λ (ls : List Item). get_elem? st.homes (slot_of k.libraries s l.number (length ls)) ≡ some (some None)) (sym fits.items) claimed.0
 
-        claim_rule : Ruled k (stepped st (taken_word s l.number) taken id [] (library_view k (sending_to (with_library_session l s after) (suc s))) (takes (slot_of k.libraries s l.number (length mine.items)) None))
+        claim_rule : Ruled k (stepped st (taken_word s l.number) taken id [] (library_view k (with_sending (with_library_session l s after) (suc s))) (takes (slot_of k.libraries s l.number (length mine.items)) None))
         claim_rule = stays_rule k id l s here st q at z.lines lane_out after (suc s) claim_keeps (taken_word s l.number) (set st.homes (slot_of k.libraries s l.number (length mine.items)) none) refl
             (subst (λ (ls : List Item). SlotsKept k q.truth l s lane_out (set st.homes (slot_of k.libraries s l.number (length ls)) none)) (sym fits.items) (slots_change k id l s here st q at lane_out (length lane.items) none claimed.1))
 
@@ -252,16 +252,16 @@ module _ (k : Shape) (id : ℕ) (l : LibraryKnows) (s : ℕ) (here : s < k.sessi
       abbrev Claims : Bool → Type 0
       Claims b =
           (v : View) × (a : Act (Option Item)) × Valid st.homes [] a × Ruled k (stepped st (taken_word s l.number) taken id [] v a)
-          × (SawTaken k mine taken
+          × (HasFoundTaken k mine taken
           × MatchBool b (◌≡◌ {A = Seated} (v, carried_after [] a) (library_view k (with_library_session l s after), []))
-          (◌≡◌ {A = Seated} (v, carried_after [] a) (library_view k (sending_to (with_library_session l s after) (suc s)), (slot_of k.libraries s l.number (length mine.items), None) ∷ [])))
+          (◌≡◌ {A = Seated} (v, carried_after [] a) (library_view k (with_sending (with_library_session l s after) (suc s)), (slot_of k.libraries s l.number (length mine.items), None) ∷ [])))
 
       claimed_as : (b : Bool) → is_refused k (length mine.items) taken (held_count mine.leases) ≡ b → Claims b
       claimed_as true refused = (library_view k (with_library_session l s after), keeps, tt, refused_rule, (told, refl))
       claimed_as false allowed =
           let within = told.within in
           let room = has_room (length mine.items) taken k.depth (held_count mine.leases == k.sends) within allowed in
-          (library_view k (sending_to (with_library_session l s after) (suc s)), takes (slot_of k.libraries s l.number (length mine.items)) None, claim_there room, claim_rule room, (told, refl))
+          (library_view k (with_sending (with_library_session l s after) (suc s)), takes (slot_of k.libraries s l.number (length mine.items)) None, claim_there room, claim_rule room, (told, refl))
 
   pub claims_at : (slots : ℕ) → l.sending ≡ 0 → Allows (Ruled k) slots id (library_view k l, []) (taken_word s l.number) (λ n. n) (ClaimTells (step slots (taken_word s l.number) 0 0 none) (library_view k l, []))
   claims_at slots rests st q size at small =
@@ -281,4 +281,4 @@ module _ (k : Shape) (id : ℕ) (l : LibraryKnows) (s : ℕ) (here : s < k.sessi
   pub hands_back_at : (slots : ℕ) → l.sending ≡ suc s
       → Allows (Ruled k) slots id (library_view k l, (slot_of k.libraries s l.number (length mine.items), None) ∷ []) (taken_word s l.number) (λ n. n)
       (HandBackTells (step slots (taken_word s l.number) 0 0 none) (library_view k l, (slot_of k.libraries s l.number (length mine.items), None) ∷ []))
-  hands_back_at slots fills st q size at small = (library_view k (sending_to l 0), gives, tt, back_rule st q at fills, refl)
+  hands_back_at slots fills st q size at small = (library_view k (with_sending l 0), gives, tt, back_rule st q at fills, refl)

@@ -16,7 +16,7 @@ use Rattle.lease_words.specs.declared.view.View.{View}
 use Rattle.lease_words.specs.Layout.{lane_at, taken_word, lane_of, slot_of}
 use Rattle.lease_words.specs.Leases.{Each, AreLines, IsLineOf, total}
 use Rattle.lease_words.specs.Views.{engine_session, with_engine_session, library_session, engine_view, taken_of, last_library, pending, base_of, no_engine_session, shown_sends}
-use Rattle.lease_words.specs.Sees.{took, taking_from}
+use Rattle.lease_words.specs.Sees.{after_take, with_taking}
 use Rattle.lease_words.specs.Facts.{Lane, Session, IsLane, IsSession, KnowsLane, EngineFits, one_if}
 use Rattle.lease_words.specs.Rule.{Truth, Ruled, SlotsFit, EngineKnowsSo, LibraryKnowsSo}
 use Rattle.lease_words.specs.Tells.{FetchTells, VacateTells, FetchOf, HasTaken, engine_numbers}
@@ -69,7 +69,7 @@ retaken libraries base taking taking' s t es same fits = record {
 -- the engine's seat takes from another lane, and knows one session otherwise
 taking_mine : (k : Shape) (t : Truth) (s : ℕ) (x : Session) (seat : ℕ) (e : EngineKnows) (es : EngineSession) (taking : ℕ) → s < k.sessions → EngineFits k.libraries (base_of k s) taking s x es
     → ((i j : ℕ) → i ≢ s → 1 ≤ j → j ≤ k.libraries → one_if (eqb e.taking (suc (lane_of k.libraries i j))) ≡ one_if (eqb taking (suc (lane_of k.libraries i j))))
-    → EngineKnowsSo k t seat e → EngineKnowsSo k (with_session t s x) seat (taking_from (with_engine_session e s es) taking)
+    → EngineKnowsSo k t seat e → EngineKnowsSo k (with_session t s x) seat (with_taking (with_engine_session e s es) taking)
 taking_mine k t s x seat e es taking below fits same so = record {
   here = so.here;
   count = length-set e.sessions s es ∙ so.count;
@@ -187,7 +187,7 @@ module _ (k : Shape) (e : EngineKnows) (s library : ℕ) (here : s < k.sessions)
     longer item = length-append taken_before (item ∷ [])
 
     fetched_fits : (item : Item) → e.taking ≡ 0 → library ≡ last_library of_engine → 0 < pending of_engine → get_elem? lane.items lane.taken ≡ some item
-        → EngineFits k.libraries (base_of k s) (suc (lane_of k.libraries s library)) s fetched (took of_engine library (item ∷ []))
+        → EngineFits k.libraries (base_of k s) (suc (lane_of k.libraries s library)) s fetched (after_take of_engine library (item ∷ []))
     fetched_fits item rests whose more next =
         let kl = fits.lanes library one most in
         let after : List Item = taken_before ++ item ∷ [] in
@@ -237,13 +237,14 @@ module _ (k : Shape) (e : EngineKnows) (s library : ℕ) (here : s < k.sessions)
           count = omega arith;
           longer = ap length (taken_here after) ∙ omega (arith, length-append taken_before (item ∷ []));
           few = omega arith;
+          others = new.untaken;
           settled = each_map (λ (l : LibraryKnows) (h : LibraryKnowsSo k truth seat l).
               let items : (library_session l s).items ≡ (t.lanes l.number).items = (h.sessions s here).items ∙ ap (λ (x : Session). (x.lanes l.number).items) is in
               let same : (fetched.lanes l.number).items ≡ (t.lanes l.number).items = updated_all (λ j (z : Lane). z.items ≡ (t.lanes j).items) t.lanes library lane_out refl (λ j other. refl) l.number in
-              subst (IsPrefix (taken_of (took of_engine library (item ∷ [])) l.number)) (same ∙ sym items) (new.lanes l.number h.from_one h.to_last).begins) ls known;
+              subst (IsPrefix (taken_of (after_take of_engine library (item ∷ [])) l.number)) (same ∙ sym items) (new.lanes l.number h.from_one h.to_last).begins) ls known;
           numbers = ap (λ (p : ℕ). record { lease = (engine_numbers of_engine).lease; library = (engine_numbers of_engine).library; count = (engine_numbers of_engine).count; pending = p }) (
               let was = pending_is whose in
-              let now : pending (took of_engine library (item ∷ [])) ≡ shown_sends of_engine library - length (taken_before ++ item ∷ []) =
+              let now : pending (after_take of_engine library (item ∷ [])) ≡ shown_sends of_engine library - length (taken_before ++ item ∷ []) =
               ap (λ (i : ℕ). shown_sends of_engine i - length (get_or (set of_engine.taken (library - 1) (taken_before ++ item ∷ [])) (i - 1) [])) (sym whose) ∙ ap (λ (l : List Item). shown_sends of_engine library - length l) (taken_here after) in
               omega arith);
         }
@@ -318,7 +319,7 @@ module _ (k : Shape) (id : ℕ) (e : EngineKnows) (ls : List LibraryKnows) (s : 
       (omega arith) refl refl refl refl (q.lanes s library here one most) in
       let item : Item = f.0 in
       let taking : ℕ = suc (lane_of k.libraries s library) in
-      let e' : EngineKnows = taking_from (with_engine_session e s (took mine library (item ∷ []))) taking in (
+      let e' : EngineKnows = with_taking (with_engine_session e s (after_take mine library (item ∷ []))) taking in (
         engine_view k e' ls,
         takes (slot_of k.libraries s library r) (Some item),
         subst (λ (p : ℕ). get_elem? st.homes (slot_of k.libraries s library p) ≡ some (some (Some item))) (sym is) f.2,
@@ -339,7 +340,7 @@ module _ (k : Shape) (id : ℕ) (e : EngineKnows) (ls : List LibraryKnows) (s : 
           lanes = lanes_fit k s library one most st.homes truth.sessions y r none q.lanes
               (subst (λ (p : ℕ). SlotsFit k (set st.homes (slot_of k.libraries s library p) none) s library y) (sym is) f.3);
           views = engine_moves k truth st.views s x id e e' ls q.views at
-              (taking_mine k truth s x id e (took mine library (item ∷ [])) taking here (fetched_fits k e s library here t so fits one most item rests whose more f.1)
+              (taking_mine k truth s x id e (after_take mine library (item ∷ [])) taking here (fetched_fits k e s library here t so fits one most item rests whose more f.1)
               (λ i j other a b. ap (λ (n : ℕ). one_if (eqb n (suc (lane_of k.libraries i j)))) rests ∙ (out_nowhere (lane_of k.libraries i j) ∙ sym (out_elsewhere k.libraries s library i j one most a b (λ h. other (sym h.0)))))
               mine_so)
               (λ i a b. lane_for k s library one most t y refl refl refl (omega arith) i);
@@ -367,7 +368,7 @@ module _ (k : Shape) (id : ℕ) (e : EngineKnows) (ls : List LibraryKnows) (s : 
 
   vacated_rule : (library r new : ℕ) → 1 ≤ library → library ≤ k.libraries → e.taking ≡ suc (lane_of k.libraries s library) → r + 1 ≡ length (taken_of mine library) → new ≡ r + 1
       → (st : Table) (q : Ruled k st) → get_elem? st.views id ≡ some (engine_view k e ls)
-      → Ruled k (stepped st (taken_word s library) new id ((slot_of k.libraries s library r, None) ∷ []) (engine_view k (taking_from e 0) ls) gives)
+      → Ruled k (stepped st (taken_word s library) new id ((slot_of k.libraries s library r, None) ∷ []) (engine_view k (with_taking e 0) ls) gives)
   vacated_rule library r new one most takes_it last is st q at =
       let truth = q.truth in
       let t = truth.sessions s in
@@ -398,7 +399,7 @@ module _ (k : Shape) (id : ℕ) (e : EngineKnows) (ls : List LibraryKnows) (s : 
             (slots_emptied k st.homes s library one most (t.lanes library) y out some_more room
             (subst (λ (n : ℕ). slot_of k.libraries s library (t.lanes library).taken < n) (sym q.slots) (slot_within k.sessions k.libraries s library (t.lanes library).taken here one most))
             refl refl refl refl (q.lanes s library here one most)));
-        views = engine_moves k truth st.views s x id e (taking_from e 0) ls q.views at
+        views = engine_moves k truth st.views s x id e (with_taking e 0) ls q.views at
             (subst (λ (l : List EngineSession). EngineKnowsSo k (with_session truth s x) id record { sessions = l; beats = e.beats; taking = 0 }) (set-get_or e.sessions s no_engine_session)
             (taking_mine k truth s x id e mine 0 here (vacated_fits k e s library here t so fits one most takes_it)
             (λ i j other a b. elsewhere_out k e s library here t so fits one most takes_it i j a b (λ h. other (sym h.0))) mine_so))
@@ -408,4 +409,4 @@ module _ (k : Shape) (id : ℕ) (e : EngineKnows) (ls : List LibraryKnows) (s : 
   pub vacates_at : (slots library r new : ℕ) → 1 ≤ library → library ≤ k.libraries → e.taking ≡ suc (lane_of k.libraries s library) → r + 1 ≡ length (taken_of mine library) → new ≡ r + 1
       → Allows (Ruled k) slots id (engine_view k e ls, (slot_of k.libraries s library r, None) ∷ []) (taken_word s library) (λ _. new)
       (λ _. VacateTells (step slots (taken_word s library) new 0 none) (engine_view k e ls, (slot_of k.libraries s library r, None) ∷ []) new)
-  vacates_at slots library r new one most takes_it last is st q size at small = (engine_view k (taking_from e 0) ls, gives, tt, vacated_rule library r new one most takes_it last is st q at, refl)
+  vacates_at slots library r new one most takes_it last is st q size at small = (engine_view k (with_taking e 0) ls, gives, tt, vacated_rule library r new one most takes_it last is st q at, refl)

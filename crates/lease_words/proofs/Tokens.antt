@@ -79,3 +79,10 @@ same_engine seat seat' rows k ls i es is shape here me same =
     get_or-default [] i d r near = absurd (omega arith)
     get_or-default (x ∷ xs) zero d r near = refl
     get_or-default (x ∷ xs) (suc i) d r near = get_or-default xs i d r (omega arith)
+
+-- the session that changed
+pub session_now : (seat seat' : Seat (Option Item) View) (rows : List EngineRow) (k : Shape) (ls : List LibraryKnows) (s : ℕ) (es : EngineSession) → IsEngine seat rows → seat.me.0.shape ≡ k → s < k.sessions
+    → seat'.me ≡ (engine_view k (with_engine_session seat.me.0.knows s es) ls, []) → engine_session seat'.me.0.knows s ≡ es
+session_now seat seat' rows k ls s es is shape here me =
+    let near : s < length seat.me.0.knows.sessions = subst (λ n. s < n) (sym (is.count ∙ ap (λ (k : Shape). k.sessions) shape)) here in
+    ap (λ m. engine_session m.0.knows s) me ∙ get_or-set_same seat.me.0.knows.sessions s es no_engine_session near

@@ -11,7 +11,7 @@ use Rattle.lease_core.specs.declared.word.Standing.{Standing}
 use Rattle.lease_core.specs.declared.word.Standing.TheVariants.{Active, Released, Revoked}
 use Rattle.lease_core.specs.declared.word.Word.{Word}
 use Rattle.lease_core.specs.Lines.{IsShown, IsShownBy, FitsLine, standing_of}
-use Rattle.lease_words.specs.declared.view.Held.{Held}
+use Rattle.lease_words.specs.declared.view.LibraryLease.{LibraryLease}
 use Rattle.lease_words.specs.declared.view.Heard.{Heard}
 use Rattle.lease_words.specs.declared.view.Shape.{Shape}
 use Rattle.lease_words.specs.declared.view.EngineSession.{EngineSession}
@@ -23,7 +23,7 @@ use Rattle.lease_words.specs.Leases.{Each, Stands, OthersRest, AreLines, FitsEnd
 use Rattle.lease_words.specs.Views.{base_of, no_engine_session, engine_session, no_library_session, library_session, heard_of, unheard, taken_of, granted_lines}
 use Rattle.lease_words.specs.Facts.{Lane, Session, IsLane, IsSession, Follows, KnowsLane, EngineFits, LibraryFits, one_if}
 use Rattle.lease_words.specs.Rule.{Truth, EngineKnowsSo, LibraryKnowsSo}
-use Rattle.lease_words.specs.Tells.{HasSeen, IsSeen, IsDone, AreOne, HaveMet, Met, engine_told, library_told, engine_sessions_told, library_sessions_told, engine_met, library_met}
+use Rattle.lease_words.specs.Tells.{HasSeen, IsSeen, IsDone, AreOne, HaveMet, HaveMetAll, engine_session_after_meeting, library_session_after_meeting, engine_sessions_after_meeting, library_sessions_after_meeting, engine_after_meeting, library_after_meeting}
 use Rattle.lease_words.proofs.Lines.{get_push, get_push_before, get_push_here, get_within, follows_length, fits_count}
 use Rattle.lease_words.proofs.Seats.{each_map}
 
@@ -102,33 +102,33 @@ kept_not_released (GivenBack heir) kept is = kept
 kept_not_released TakenBack kept is = let e : Revoked ≡ Released = is in cc
 
 -- a lease beside its line
-seen_same : (e : Ending) (h : Held) (sends : ℕ) → sends ≡ h.count → FitsEnding h.ending e → HasSeen e h sends
-seen_same Running h sends count fits = (omega arith, λ lost. let e : Running ≡ TakenBack = lost_fits h.ending Running lost fits in cc)
+seen_same : (e : Ending) (h : LibraryLease) (sends : ℕ) → sends ≡ h.count → FitsEnding h.ending e → HasSeen e h sends
+seen_same Running h sends count fits = (omega arith, λ loss_ending. let e : Running ≡ TakenBack = lost_fits h.ending Running loss_ending fits in cc)
 seen_same (GivenBack heir) h sends count fits = (count, fits_given h.ending heir fits)
 seen_same TakenBack h sends count fits = (count, fits_taken h.ending fits)
 
-seen_line : (h : Held) (x l : Line) → Grew x l → l.sends ≡ h.count → FitsEnding h.ending l.ending → HasSeen x.ending h x.sends
+seen_line : (h : LibraryLease) (x l : Line) → Grew x l → l.sends ≡ h.count → FitsEnding h.ending l.ending → HasSeen x.ending h x.sends
 seen_line h x l (inl same) count fits = subst (λ (y : Line). HasSeen y.ending h y.sends) (sym same) (seen_same l.ending h l.sends count fits)
 seen_line h x l (inr on) count fits =
     let more : x.sends ≤ l.sends = on.more in
     let few : x.sends ≤ h.count = omega arith in
-    subst (λ (e : Ending). HasSeen e h x.sends) (sym on.ran) (few, λ lost. not_taken x l on (lost_fits h.ending l.ending lost fits))
+    subst (λ (e : Ending). HasSeen e h x.sends) (sym on.ran) (few, λ loss_ending. not_taken x l on (lost_fits h.ending l.ending loss_ending fits))
 
 -- the library's lease with a number, if there is one
-find_lease : (P : Held → Type 0) (n : ℕ) (leases : List Held) → Each P leases
-    → (P (lease_in n leases) × ((lease_in n leases).lease ≡ n)) ⊎ ((lease_in n leases ≡ new_lease n) × Each (λ (h : Held). h.lease ≢ n) leases)
+find_lease : (P : LibraryLease → Type 0) (n : ℕ) (leases : List LibraryLease) → Each P leases
+    → (P (lease_in n leases) × ((lease_in n leases).lease ≡ n)) ⊎ ((lease_in n leases ≡ new_lease n) × Each (λ (h : LibraryLease). h.lease ≢ n) leases)
 find_lease P n [] all = inr (refl, tt)
 find_lease P n (h ∷ hs) all =
     elim (ℕ_discrete h.lease n) [
-      | yes e ↦ subst (λ (b : Bool). (P (cond b h (lease_in n hs)) × ((cond b h (lease_in n hs)).lease ≡ n)) ⊎ ((cond b h (lease_in n hs) ≡ new_lease n) × Each (λ (g : Held). g.lease ≢ n) (h ∷ hs)))
+      | yes e ↦ subst (λ (b : Bool). (P (cond b h (lease_in n hs)) × ((cond b h (lease_in n hs)).lease ≡ n)) ⊎ ((cond b h (lease_in n hs) ≡ new_lease n) × Each (λ (g : LibraryLease). g.lease ≢ n) (h ∷ hs)))
           (sym (eq-eqb h.lease n e)) (inl (all.0, e))
-      | no ne ↦ subst (λ (b : Bool). (P (cond b h (lease_in n hs)) × ((cond b h (lease_in n hs)).lease ≡ n)) ⊎ ((cond b h (lease_in n hs) ≡ new_lease n) × Each (λ (g : Held). g.lease ≢ n) (h ∷ hs)))
+      | no ne ↦ subst (λ (b : Bool). (P (cond b h (lease_in n hs)) × ((cond b h (lease_in n hs)).lease ≡ n)) ⊎ ((cond b h (lease_in n hs) ≡ new_lease n) × Each (λ (g : LibraryLease). g.lease ≢ n) (h ∷ hs)))
           (sym (ne_eqb h.lease n ne)) (⊎_elim (λ is. inl is) (λ none. inr (none.0, (ne, none.1))) (find_lease P n hs all.1))
     ]
 
 -- The engine's lines of a session, and the session's.
 module _ (base library : ℕ) (shown lines : List Line) (follows : Follows shown lines) where
-  is_seen : (h : Held) → Stands base lines library h → IsSeen base library shown h
+  is_seen : (h : LibraryLease) → Stands base lines library h → IsSeen base library shown h
   is_seen h s =
       let a = shown_at shown lines follows (h.lease - 1) s.line s.at in
       record { above = s.above; line = a.0; at = a.1; whose = whose_grew a.0 s.line a.2 ∙ s.whose; seen = seen_line h a.0 s.line a.2 s.count s.ending }
@@ -140,13 +140,13 @@ module _ (base library : ℕ) (shown lines : List Line) (follows : Follows shown
       let none : l.sends ≡ 0 = rests.0 in
       (omega arith, subst IsKept (sym on.ran) tt)
 
-  others_rest : (leases : List Held) → OthersRest base lines library leases → OthersRest base shown library leases
+  others_rest : (leases : List LibraryLease) → OthersRest base lines library leases → OthersRest base shown library leases
   others_rest leases others k x at above whose apart =
       let a = lines_at shown lines follows k x at in
       rest_grew x a.0 a.2 (others k a.0 a.1 above (sym (whose_grew x a.0 a.2) ∙ whose) apart)
 
-  module _ (leases : List Held) (stands : Each (Stands base lines library) leases) (others : OthersRest base lines library leases) where
-    abbrev Shows : Word → Line → Held → Type 0
+  module _ (leases : List LibraryLease) (stands : Each (Stands base lines library) leases) (others : OthersRest base lines library leases) where
+    abbrev Shows : Word → Line → LibraryLease → Type 0
     Shows w l h = (w.count ≤ h.count) × (w.standing ≡ Released → standing_of h.ending ≡ Released) × (w.standing ≡ Revoked → l.ending ≡ TakenBack)
 
     taken_seen : (w : Word) (x m : Line) → Grew x m → FitsLine w.standing w.owner w.count m → w.standing ≡ Revoked → x.ending ≡ TakenBack
@@ -160,7 +160,7 @@ module _ (base library : ℕ) (shown lines : List Line) (follows : Follows shown
     own_shows : (w : Word) (x m : Line) → IsShownBy lines w m → Grew x m → base < w.lease → x.library ≡ library → Shows w x (lease_in w.lease leases)
     own_shows w x m by grew above whose = ⊎_elim
         (λ (found : Stands base lines library (lease_in w.lease leases) × ((lease_in w.lease leases).lease ≡ w.lease)).
-        let h : Held = lease_in w.lease leases in
+        let h : LibraryLease = lease_in w.lease leases in
         let s : Stands base lines library h = found.0 in
         let here : slice_get lines (w.lease - 1) ≡ Some s.line = subst (λ (n : ℕ). slice_get lines (n - 1) ≡ Some s.line) found.1 s.at in
         let same : s.line ≡ m = let at : slice_get lines (w.lease - 1) ≡ Some m = by.line in cc in
@@ -168,11 +168,11 @@ module _ (base library : ℕ) (shown lines : List Line) (follows : Follows shown
         let count : m.sends ≡ h.count = ap (λ (l : Line). l.sends) (sym same) ∙ s.count in
         let fits : FitsEnding h.ending m.ending = subst (λ (l : Line). FitsEnding h.ending l.ending) same s.ending in
         (subst (λ (n : ℕ). w.count ≤ n) count few, λ is. fits_released h.ending m.ending fits (released w m by.fits is), taken_seen w x m grew by.fits))
-        (λ (none : (lease_in w.lease leases ≡ new_lease w.lease) × Each (λ (h : Held). h.lease ≢ w.lease) leases).
+        (λ (none : (lease_in w.lease leases ≡ new_lease w.lease) × Each (λ (h : LibraryLease). h.lease ≢ w.lease) leases).
         let one : 0 < w.lease = by.lease in
         let next : w.lease ≡ suc (w.lease - 1) = omega arith in
         let rests : (m.sends ≡ 0) × IsKept m.ending = others (w.lease - 1) m by.line (omega arith) (sym (whose_grew x m grew) ∙ whose)
-        (subst (λ (n : ℕ). Each (λ (h : Held). h.lease ≢ n) leases) next none.1) in
+        (subst (λ (n : ℕ). Each (λ (h : LibraryLease). h.lease ≢ n) leases) next none.1) in
         let few : w.count ≤ m.sends = fits_count w.standing w.owner w.count m by.fits in
         subst (Shows w x) (sym none.0) (subst (λ (n : ℕ). w.count ≤ n) rests.0 few, λ is. absurd (kept_not_released m.ending rests.1 (released w m by.fits is)), taken_seen w x m grew by.fits))
         (find_lease (Stands base lines library) w.lease leases stands)
@@ -203,8 +203,8 @@ module _ (libraries depth sends library base s taking sending : ℕ) (one : 1 �
     lines = t.lines;
     are_lines = subst (λ (b : ℕ). AreLines b libraries t.lines) (sym e.based) so.are_lines;
     follows = subst (λ (shown : List Line). Follows shown t.lines) (sym e.lines) so.follows;
-    stands = subst (λ (z : ℕ × List Held). Each (Stands z.0 t.lines library) z.1) (λ i. (sym e.based i, sym l.leases i)) is.stands;
-    rest = subst (λ (z : ℕ × List Held). OthersRest z.0 t.lines library z.1) (λ i. (sym e.based i, sym l.leases i)) is.others;
+    stands = subst (λ (z : ℕ × List LibraryLease). Each (Stands z.0 t.lines library) z.1) (λ i. (sym e.based i, sym l.leases i)) is.stands;
+    rest = subst (λ (z : ℕ × List LibraryLease). OthersRest z.0 t.lines library z.1) (λ i. (sym e.based i, sym l.leases i)) is.others;
     all = ap length l.items ∙ (is.all ∙ ap (λ (b : ℕ). total library (granted_lines b t.lines)) (sym e.based));
     engine_words = e.words;
     library_words = l.words;
@@ -218,7 +218,7 @@ module _ (libraries depth sends library base s taking sending : ℕ) (one : 1 �
       let done : (ws : List Word) → Each (IsShown t.lines) ws → Each (IsDone base library t.shown lane.leases) ws =
       λ ws shown. each_map (word_done base library t.shown t.lines so.follows lane.leases is.stands is.others) ws shown in
       let facts : Each (IsSeen es.base library es.lines) ls.leases × OthersRest es.base es.lines library ls.leases × Each (IsDone es.base library es.lines ls.leases) es.words × Each (IsDone es.base library es.lines ls.leases) ls.words =
-      subst (λ (z : ℕ × List Line × List Held). Each (IsSeen z.0 library z.1) z.2 × OthersRest z.0 z.1 library z.2 × Each (IsDone z.0 library z.1 z.2) es.words × Each (IsDone z.0 library z.1 z.2) ls.words)
+      subst (λ (z : ℕ × List Line × List LibraryLease). Each (IsSeen z.0 library z.1) z.2 × OthersRest z.0 z.1 library z.2 × Each (IsDone z.0 library z.1 z.2) es.words × Each (IsDone z.0 library z.1 z.2) ls.words)
       (λ i. (sym e.based i, sym e.lines i, sym l.leases i)) (
         each_map (is_seen base library t.shown t.lines so.follows) lane.leases is.stands,
         others_rest base library t.shown t.lines so.follows lane.leases is.others,
@@ -241,7 +241,7 @@ module _ (libraries depth sends library base s taking sending : ℕ) (one : 1 �
         published = subst (λ (n : ℕ). ls.published ≤ n) (sym e.published) l.published;
       }
 
-  engine_told_fits : EngineFits libraries base taking s t (engine_told es ls)
+  engine_told_fits : EngineFits libraries base taking s t (engine_session_after_meeting es ls)
   engine_told_fits = record {
     based = e.based;
     lines = e.lines;
@@ -252,7 +252,7 @@ module _ (libraries depth sends library base s taking sending : ℕ) (one : 1 �
     untaken = e.untaken;
   }
 
-  library_told_fits : taking ≡ 0 → LibraryFits sends library sending s t (library_told library es ls)
+  library_told_fits : taking ≡ 0 → LibraryFits sends library sending s t (library_session_after_meeting library es ls)
   library_told_fits rests =
       let lane : Lane = t.lanes library in
       let known : KnowsLane libraries taking s library lane (taken_of es library) = e.lanes library one most in
@@ -270,24 +270,24 @@ module _ (libraries depth sends library base s taking sending : ℕ) (one : 1 �
       }
 
 -- the sessions of both
-engine_told_at : (xs : List EngineSession) (ys : List LibrarySession) (s : ℕ) → s < length xs → s < length ys → get_or (engine_sessions_told xs ys) s no_engine_session ≡ engine_told (get_or xs s no_engine_session) (get_or ys s no_library_session)
+pub engine_told_at : (xs : List EngineSession) (ys : List LibrarySession) (s : ℕ) → s < length xs → s < length ys → get_or (engine_sessions_after_meeting xs ys) s no_engine_session ≡ engine_session_after_meeting (get_or xs s no_engine_session) (get_or ys s no_library_session)
 engine_told_at [] ys s a b = absurd (omega arith)
 engine_told_at (x ∷ xs) [] s a b = absurd (omega arith)
 engine_told_at (x ∷ xs) (y ∷ ys) zero a b = refl
 engine_told_at (x ∷ xs) (y ∷ ys) (suc s) a b = engine_told_at xs ys s (omega arith) (omega arith)
 
-library_told_at : (library : ℕ) (xs : List EngineSession) (ys : List LibrarySession) (s : ℕ) → s < length xs → s < length ys → get_or (library_sessions_told library xs ys) s no_library_session ≡ library_told library (get_or xs s no_engine_session) (get_or ys s no_library_session)
+pub library_told_at : (library : ℕ) (xs : List EngineSession) (ys : List LibrarySession) (s : ℕ) → s < length xs → s < length ys → get_or (library_sessions_after_meeting library xs ys) s no_library_session ≡ library_session_after_meeting library (get_or xs s no_engine_session) (get_or ys s no_library_session)
 library_told_at library [] ys s a b = absurd (omega arith)
 library_told_at library (x ∷ xs) [] s a b = absurd (omega arith)
 library_told_at library (x ∷ xs) (y ∷ ys) zero a b = refl
 library_told_at library (x ∷ xs) (y ∷ ys) (suc s) a b = library_told_at library xs ys s (omega arith) (omega arith)
 
-length-engine_told : (xs : List EngineSession) (ys : List LibrarySession) → length xs ≡ length ys → length (engine_sessions_told xs ys) ≡ length xs
+length-engine_told : (xs : List EngineSession) (ys : List LibrarySession) → length xs ≡ length ys → length (engine_sessions_after_meeting xs ys) ≡ length xs
 length-engine_told [] ys same = refl
 length-engine_told (x ∷ xs) [] same = absurd (omega arith)
 length-engine_told (x ∷ xs) (y ∷ ys) same = ap suc (length-engine_told xs ys (omega arith))
 
-length-library_told : (library : ℕ) (xs : List EngineSession) (ys : List LibrarySession) → length xs ≡ length ys → length (library_sessions_told library xs ys) ≡ length xs
+length-library_told : (library : ℕ) (xs : List EngineSession) (ys : List LibrarySession) → length xs ≡ length ys → length (library_sessions_after_meeting library xs ys) ≡ length xs
 length-library_told library [] ys same = refl
 length-library_told library (x ∷ xs) [] same = absurd (omega arith)
 length-library_told library (x ∷ xs) (y ∷ ys) same = ap suc (length-library_told library xs ys (omega arith))
@@ -304,14 +304,19 @@ module _ (k : Shape) (t : Truth) (seat : ℕ) (e : EngineKnows) (l : LibraryKnow
   within_library : (s : ℕ) → s < k.sessions → s < length l.sessions
   within_library s here = subst (λ (n : ℕ). s < n) (sym library.count) here
 
-  pub met : Met k e l
+  pub met : HaveMetAll k e l
   met = record {
     sessions = λ s here. have_met k.libraries k.depth k.sends l.number (base_of k s) s e.taking l.sending library.from_one library.to_last (t.sessions s) (engine_session e s) (library_session l s)
         (sessions s here) (engine.sessions s here) (library.sessions s here);
     beats = subst (λ (n : ℕ). (heard_of e l.number).count ≤ n) (sym library.beats) (engine.heard l.number library.from_one library.to_last);
+    heard =
+        let from : 1 ≤ l.number = library.from_one in
+        let to : l.number ≤ k.libraries = library.to_last in
+        let size : length e.beats ≡ k.libraries = engine.beats in
+        get_or-set_same e.beats (l.number - 1) (record { count = l.beats; loads = (heard_of e l.number).loads }) unheard (omega arith);
   }
 
-  heard_told : (other : ℕ) → 1 ≤ other → other ≤ k.libraries → (heard_of (engine_met e l) other).count ≤ t.beats other
+  heard_told : (other : ℕ) → 1 ≤ other → other ≤ k.libraries → (heard_of (engine_after_meeting e l) other).count ≤ t.beats other
   heard_told other one most =
       let h : Heard = record { count = l.beats; loads = (heard_of e l.number).loads } in
       let from : 1 ≤ l.number = library.from_one in
@@ -323,7 +328,7 @@ module _ (k : Shape) (t : Truth) (seat : ℕ) (e : EngineKnows) (l : LibraryKnow
         | no ne ↦ subst (λ (x : Heard). x.count ≤ t.beats other) (sym (get_or-set_other e.beats (l.number - 1) (other - 1) h unheard (λ same. ne (omega arith)))) (engine.heard other one most)
       ]
 
-  pub engine_met_so : EngineKnowsSo k t seat (engine_met e l)
+  pub engine_met_so : EngineKnowsSo k t seat (engine_after_meeting e l)
   engine_met_so = record {
     here = engine.here;
     count = length-engine_told e.sessions l.sessions alike ∙ engine.count;
@@ -334,7 +339,7 @@ module _ (k : Shape) (t : Truth) (seat : ℕ) (e : EngineKnows) (l : LibraryKnow
     heard = heard_told;
   }
 
-  pub library_met_so : e.taking ≡ 0 → LibraryKnowsSo k t seat (library_met e l)
+  pub library_met_so : e.taking ≡ 0 → LibraryKnowsSo k t seat (library_after_meeting e l)
   library_met_so rests = record {
     from_one = library.from_one;
     to_last = library.to_last;

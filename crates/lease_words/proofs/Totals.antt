@@ -59,7 +59,7 @@ grown_on base libraries library shown lines are g =
     let more : g.was.sends ≤ g.now.sends = g.more in
     let whose : (last_or no_line lines).library ≡ g.now.library = ap (λ (l : Line). l.library) last in
     let sends : (last_or no_line lines).sends ≡ g.now.sends = ap (λ (l : Line). l.sends) last in
-    let sent : (last_or no_line shown).sends ≡ g.was.sends = ap (λ (l : Line). l.sends) first in
+    let as_seen : (last_or no_line shown).sends ≡ g.was.sends = ap (λ (l : Line). l.sends) first in
     record {
       more = elim (Rattle.std.proofs.Common.eqb g.now.library library) as (λ c. eqb g.now.library library ≡ c → granted_total base library shown ≤ granted_total base library lines) [
         | true ↦ λ h.

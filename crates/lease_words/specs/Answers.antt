@@ -11,7 +11,7 @@ use Rattle.lease_core.specs.Word.{word_in}
 use Rattle.lease_words.specs.declared.item.Item.{Item}
 use Rattle.lease_words.specs.Layout.{slot_of}
 use Rattle.lease_words.specs.Views.{library_view, first_library, library_session, with_library_session}
-use Rattle.lease_words.specs.Sees.{saw_taken, lost_to, sent, sending_to}
+use Rattle.lease_words.specs.Sees.{after_taken_load, after_loss, after_send, with_sending}
 use Rattle.lease_words.specs.Tells.{Seated, HasSent, HasLost, held_word}
 
 -- the word of an active lease
@@ -22,8 +22,12 @@ active_word lease library count = record { lease = lease; owner = library; stand
 abbrev pub released_word : ℕ → ℕ → ℕ → Word
 released_word lease owner count = record { lease = lease; owner = owner; standing = Released; count = count }
 
+-- the count of beats at which a library's stays
+abbrev pub most_beats : ℕ
+most_beats = 18446744073709551615
+
 abbrev pub next_beat : ℕ → ℕ
-next_beat n = if n == 18446744073709551615 then n else n + 1
+next_beat n = if n == most_beats then n else n + 1
 
 -- A taken count that was loaded is no less than what was known of it, and no more than what was sent, which is more by what the lane has room for at most.
 pub record HasLoaded (depth : ℕ) (ls : LibrarySession) (taken : ℕ) : Type 0 where
@@ -40,10 +44,10 @@ pub record IsLoss (ls : LibrarySession) (seen : Word) : Type 0 where
 -- Why a send was refused, in the order in which the causes are tried: the lane was full by the taken count that was loaded, the lease has made
 -- all its sends, or the exchange found another word than the lease's.
 abbrev pub IsRefusal : Shape → LibrarySession → LibrarySession → ℕ → SendError → Type 0
-IsRefusal shape ls after taken (LaneFull committed found) = (committed ≡ length ls.items) × (found ≡ taken) × (committed ≡ taken + shape.depth) × (after ≡ saw_taken ls taken)
-IsRefusal shape ls after taken (SendsSpent count) = (count ≡ held_count ls.leases) × (count ≡ shape.sends) × (length ls.items ≢ taken + shape.depth) × (after ≡ saw_taken ls taken)
+IsRefusal shape ls after taken (LaneFull committed found) = (committed ≡ length ls.items) × (found ≡ taken) × (committed ≡ taken + shape.depth) × (after ≡ after_taken_load ls taken)
+IsRefusal shape ls after taken (SendsSpent count) = (count ≡ held_count ls.leases) × (count ≡ shape.sends) × (length ls.items ≢ taken + shape.depth) × (after ≡ after_taken_load ls taken)
 IsRefusal shape ls after taken (Lost seen) =
-    IsLoss ls seen × (held_count ls.leases ≢ shape.sends) × (length ls.items ≢ taken + shape.depth) × (after ≡ lost_to (saw_taken ls taken) seen)
+    IsLoss ls seen × (held_count ls.leases ≢ shape.sends) × (length ls.items ≢ taken + shape.depth) × (after ≡ after_loss (after_taken_load ls taken) seen)
 
 -- A library's seat with an empty slot out, by which it is about to send, and the number of the lease's word.
 pub record IsOffering (k : Shape) (s number slot word : ℕ) (me : Seated) : Type 0 where
@@ -60,10 +64,10 @@ abbrev pub HasOffered : Shape → ℕ → ℕ → ℕ → Item → Seated → Se
 HasOffered k s number word item me me' =
     let l = first_library me.0.libraries in
     let ls = library_session l s in
-    (me' ≡ (library_view k (sending_to (with_library_session l s (sent ls (item ∷ []) (word_in (word + 1)))) 0), [])) × HasSent number ls (item ∷ []) (word + 1)
+    (me' ≡ (library_view k (with_sending (with_library_session l s (after_send ls (item ∷ []) (word_in (word + 1)))) 0), [])) × HasSent number ls (item ∷ []) (word + 1)
 
 abbrev pub HasFailed : Shape → ℕ → ℕ → ℕ → Seated → Seated → Type 0
 HasFailed k s number found me me' =
     let l = first_library me.0.libraries in
     let ls = library_session l s in
-    (me' ≡ (library_view k (sending_to (with_library_session l s (lost_to ls (word_in found))) 0), [])) × HasLost number ls found
+    (me' ≡ (library_view k (with_sending (with_library_session l s (after_loss ls (word_in found))) 0), [])) × HasLost number ls found

@@ -6,7 +6,7 @@ use Rattle.lease_core.specs.declared.lease.Ending.TheVariants.{Running, GivenBac
 use Rattle.lease_core.specs.declared.lease.Line.{Line}
 use Rattle.lease_core.specs.Lines.{IsShown}
 use Rattle.lease_words.specs.declared.item.Item.{Item}
-use Rattle.lease_words.specs.declared.view.Held.{Held}
+use Rattle.lease_words.specs.declared.view.LibraryLease.{LibraryLease}
 use Rattle.lease_words.specs.declared.view.EngineSession.{EngineSession}
 use Rattle.lease_words.specs.declared.view.LibrarySession.{LibrarySession}
 use Rattle.lease_words.specs.Layout.{lane_of}
@@ -15,7 +15,7 @@ use Rattle.lease_words.specs.Views.{taken_of, granted_lines, shown_sends, last_l
 
 -- A lane: the library's leases and the items that it sent, how many of these were taken, and how many slots are out with either seat
 pub record Lane : Type 0 where
-  pub leases : List Held
+  pub leases : List LibraryLease
   pub items : List Item
   pub taken : ℕ
   pub filling : ℕ

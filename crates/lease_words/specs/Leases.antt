@@ -8,7 +8,7 @@ use Rattle.lease_core.specs.declared.word.Standing.TheVariants.{Active, Released
 use Rattle.lease_core.specs.declared.word.Word.{Word}
 use Rattle.lease_core.specs.Lines.{no_line}
 use Rattle.lease_core.specs.State.{last_or}
-use Rattle.lease_words.specs.declared.view.Held.{Held}
+use Rattle.lease_words.specs.declared.view.LibraryLease.{LibraryLease}
 
 -- a fact holds of each of a list
 abbrev pub Each : {A : Type 0} → (A → Type 0) → List A → Type 0
@@ -35,40 +35,40 @@ held_by Running n = n
 held_by (GivenBack heir) n = 0
 held_by TakenBack n = 0
 
-abbrev pub held_lease : List Held → ℕ
+abbrev pub held_lease : List LibraryLease → ℕ
 held_lease [] = 0
 held_lease (h ∷ hs) = held_by h.ending h.lease
 
-abbrev pub held_count : List Held → ℕ
+abbrev pub held_count : List LibraryLease → ℕ
 held_count [] = 0
 held_count (h ∷ hs) = held_by h.ending h.count
 
 -- a lease that wasn't given back was taken back
-abbrev pub lost : Ending → Ending
-lost Running = TakenBack
-lost (GivenBack heir) = GivenBack heir
-lost TakenBack = TakenBack
+abbrev pub loss_ending : Ending → Ending
+loss_ending Running = TakenBack
+loss_ending (GivenBack heir) = GivenBack heir
+loss_ending TakenBack = TakenBack
 
-abbrev pub ended_first : (Ending → Ending) → List Held → List Held
-ended_first f [] = []
-ended_first f (h ∷ hs) = record { lease = h.lease; count = h.count; ending = f h.ending } ∷ hs
+abbrev pub with_first_ending : (Ending → Ending) → List LibraryLease → List LibraryLease
+with_first_ending f [] = []
+with_first_ending f (h ∷ hs) = record h { ending = f h.ending } ∷ hs
 
-abbrev pub counted_first : List Held → List Held
-counted_first [] = []
-counted_first (h ∷ hs) = record { lease = h.lease; count = h.count + 1; ending = h.ending } ∷ hs
+abbrev pub with_one_send : List LibraryLease → List LibraryLease
+with_one_send [] = []
+with_one_send (h ∷ hs) = record h { count = h.count + 1 } ∷ hs
 
-abbrev pub new_lease : ℕ → Held
+abbrev pub new_lease : ℕ → LibraryLease
 new_lease n = record { lease = n; count = 0; ending = Running }
 
 -- A word that shows an active lease of this library makes it hold that one, and any other word that what it held is lost.
-abbrev pub leases_seen : ℕ → Word → List Held → List Held
-leases_seen library w leases =
+abbrev pub leases_after_see : ℕ → Word → List LibraryLease → List LibraryLease
+leases_after_see library w leases =
     if shows_lease library w
-    then (if held_lease leases == w.lease then leases else new_lease w.lease ∷ ended_first lost leases)
-    else ended_first lost leases
+    then (if held_lease leases == w.lease then leases else new_lease w.lease ∷ with_first_ending loss_ending leases)
+    else with_first_ending loss_ending leases
 
 -- a library's lease with this number, which made no sends where the library has none with it
-abbrev pub lease_in : ℕ → List Held → Held
+abbrev pub lease_in : ℕ → List LibraryLease → LibraryLease
 lease_in n [] = new_lease n
 lease_in n (h ∷ hs) = if h.lease == n then h else lease_in n hs
 
@@ -79,7 +79,7 @@ FitsEnding (GivenBack heir) ending = ending ≡ GivenBack heir
 FitsEnding TakenBack ending = ending ≡ TakenBack
 
 -- the library's lease stands in these lines, with the library's own count
-pub record Stands (base : ℕ) (lines : List Line) (library : ℕ) (h : Held) : Type 0 where
+pub record Stands (base : ℕ) (lines : List Line) (library : ℕ) (h : LibraryLease) : Type 0 where
   pub above : base < h.lease
   pub line : Line
   pub at : slice_get lines (h.lease - 1) ≡ Some line
@@ -94,9 +94,9 @@ IsKept TakenBack = Unit {0}
 IsKept (GivenBack heir) = ⊥
 
 -- A line of this library above the base that isn't among its leases has no sends, and wasn't given back.
-abbrev pub OthersRest : ℕ → List Line → ℕ → List Held → Type 0
+abbrev pub OthersRest : ℕ → List Line → ℕ → List LibraryLease → Type 0
 OthersRest base lines library leases = (k : ℕ) (l : Line) → slice_get lines k ≡ Some l → base ≤ k → l.library ≡ library
-    → Each (λ (h : Held). h.lease ≢ suc k) leases → (l.sends ≡ 0) × IsKept l.ending
+    → Each (λ (h : LibraryLease). h.lease ≢ suc k) leases → (l.sends ≡ 0) × IsKept l.ending
 
 -- the sends of one library in these lines
 abbrev pub sends_of : ℕ → Line → ℕ
@@ -106,11 +106,15 @@ abbrev pub total : ℕ → List Line → ℕ
 total library [] = 0
 total library (l ∷ ls) = sends_of library l + total library ls
 
--- all but the first have ended
-abbrev pub AllEnded : List Held → Type 0
-AllEnded hs = Each (λ (h : Held). runs h.ending ≡ false) hs
+-- this lease is above each of these
+abbrev pub AreBelow : ℕ → List LibraryLease → Type 0
+AreBelow lease hs = Each (λ (h : LibraryLease). h.lease < lease) hs
 
-abbrev pub FirstRuns : List Held → Type 0
+-- all but the first have ended
+abbrev pub AllEnded : List LibraryLease → Type 0
+AllEnded hs = Each (λ (h : LibraryLease). runs h.ending ≡ false) hs
+
+abbrev pub FirstRuns : List LibraryLease → Type 0
 FirstRuns [] = Unit {0}
 FirstRuns (h ∷ hs) = AllEnded hs
 

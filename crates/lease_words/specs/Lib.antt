@@ -1,5 +1,6 @@
 pub mod Layout
 pub mod Leases
+pub mod Registries
 pub mod Views
 pub mod Sees
 pub mod Facts

@@ -1,5 +1,5 @@
 -- The rule of a table: its words and slots are those of what is so, and no seat knows more than is so. It holds between any two steps of any seats.
-use Rattle.std.specs.Prelude.{◌≡◌, ◌≢◌, ℕ, ◌+◌, ◌<◌, ◌≤◌, true, List, [], ◌∷◌, length, slice_index_or, Option, Some, None}
+use Rattle.std.specs.Prelude.{◌≡◌, ◌≢◌, ℕ, ◌+◌, ◌^◌, ◌<◌, ◌≤◌, true, List, [], ◌∷◌, length, slice_index_or, Option, Some, None}
 use mathlib.Core.Option.{some}
 use mathlib.Core.Option as place
 use lib.ListN.{get_elem?}
@@ -30,7 +30,7 @@ pub record IsShape (k : Shape) : Type 0 where
   pub some_depth : 1 ≤ k.depth
   pub depth : k.depth ≤ 16
   pub some_sends : 1 ≤ k.sends
-  pub sends : k.sends < 4294967296
+  pub sends : k.sends < 2 ^ 32
 
 -- the words are those of what is so
 pub record WordsFit (k : Shape) (words : List ℕ) (t : Truth) : Type 0 where

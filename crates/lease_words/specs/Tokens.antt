@@ -1,5 +1,5 @@
 -- What an engine's and a library's seat are between two calls: no slot is out with them, and the numbers that they keep are those of what they know.
-use Rattle.std.specs.Prelude.{◌≡◌, ℕ, zero, suc, ◌<◌, ◌≤◌, List, [], ◌∷◌, length, map, Option}
+use Rattle.std.specs.Prelude.{◌≡◌, ◌≢◌, ℕ, zero, suc, ◌^◌, ◌<◌, ◌≤◌, List, [], ◌∷◌, length, map, slice_index_or, Option}
 use Rattle.atomic_table.specs.declared.shared.Seat.{Seat}
 use Rattle.lease_words.specs.declared.item.Item.{Item}
 use Rattle.lease_words.specs.declared.view.Shape.{Shape}
@@ -8,8 +8,15 @@ use Rattle.lease_words.specs.declared.view.LibrarySession.{LibrarySession}
 use Rattle.lease_words.specs.declared.view.View.{View}
 use Rattle.lease_words.specs.declared.rows.EngineRow.{EngineRow}
 use Rattle.lease_words.specs.declared.rows.LibraryRow.{LibraryRow}
+use Rattle.lease_core.specs.declared.lease.Line.{Line}
+use Rattle.lease_core.specs.Lines.{word_of}
+use Rattle.lease_core.specs.Word.{word_in}
+use Rattle.lease_words.specs.declared.outset.Outset.{Outset}
 use Rattle.atomic_table.specs.Seated.{TableId}
-use Rattle.lease_words.specs.Layout.{word_count, slot_count}
+use Rattle.lease_words.specs.Layout.{lease_word, word_count, slot_count}
+use Rattle.lease_words.specs.Registries.{AreEnded}
+use Rattle.lease_core.specs.Lines.{last_line}
+use Rattle.lease_words.specs.Leases.{Each, held_count}
 use Rattle.lease_words.specs.Rule.{IsShape}
 use Rattle.lease_words.specs.Views.{TableRef, EngineView, LibraryView, engine_view, library_view, first_library, engine_session, last_library, new_engine, new_library}
 use Rattle.lease_words.specs.Tells.{engine_numbers, library_numbers}
@@ -37,6 +44,27 @@ pub record IsEngine (s : Seat (Option Item) View) (rows : List EngineRow) : Type
   pub count : length s.me.0.knows.sessions ≡ s.me.0.shape.sessions
   pub known : (i : ℕ) → i < s.me.0.shape.sessions → last_library (engine_session s.me.0.knows i) ≤ 16
 
+-- the row of a session whose leases are from before the table
+abbrev pub first_row : List Line → EngineRow
+first_row lines = record { lease = length lines; library = (last_line lines).library; count = (last_line lines).sends; pending = 0 }
+
+abbrev pub no_row : EngineRow
+no_row = first_row []
+
+-- The rows and words follow from the lines: the lease words are those of the lines, and all others are 0.
+pub record IsOutset (o : Outset) : Type 0 where
+  pub few : length o.before ≤ o.sessions
+  pub ended : Each AreEnded o.before
+  pub row_count : length o.rows.items ≡ o.sessions
+  pub rows : (s : ℕ) → s < o.sessions → slice_index_or o.rows.items s no_row ≡ first_row (slice_index_or o.before s [])
+  pub word_count : length o.words.items ≡ word_count o.sessions o.libraries
+  pub leases : (s : ℕ) → s < o.sessions → word_in (slice_index_or o.words.items (lease_word s) 0) ≡ word_of (slice_index_or o.before s [])
+  pub others : (i : ℕ) → ((s : ℕ) → s < o.sessions → i ≢ lease_word s) → slice_index_or o.words.items i 0 ≡ 0
+
+-- the count of the lease that is held fits into its word
+abbrev pub CountsFit : LibrarySession → Type 0
+CountsFit ls = held_count ls.leases < 2 ^ 32
+
 pub record IsLibrary (s : Seat (Option Item) View) (number beats : ℕ) (rows : List LibraryRow) : Type 0 where
   pub rests : s.me ≡ (library_view s.me.0.shape (first_library s.me.0.libraries), [])
   pub idle : (first_library s.me.0.libraries).sending ≡ 0
@@ -44,6 +72,7 @@ pub record IsLibrary (s : Seat (Option Item) View) (number beats : ℕ) (rows : 
   pub beats_are : beats ≡ (first_library s.me.0.libraries).beats
   pub rows_are : rows ≡ map (library_row number) (first_library s.me.0.libraries).sessions
   pub count : length (first_library s.me.0.libraries).sessions ≡ s.me.0.shape.sessions
+  pub few : Each CountsFit (first_library s.me.0.libraries).sessions
   pub from_one : 1 ≤ number
   pub to_last : number ≤ 16
   pub within : number ≤ s.me.0.shape.libraries

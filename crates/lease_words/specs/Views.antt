@@ -1,8 +1,6 @@
 -- What seats know, and what contracts see of a table and of its seats.
-use Rattle.std.specs.Prelude.{ℕ, zero, suc, ◌-◌, false, true, List, [], ◌∷◌, length, slice_index_or, slice_set}
+use Rattle.std.specs.Prelude.{ℕ, zero, suc, ◌-◌, false, true, List, [], ◌∷◌, length, replicate, slice_index_or, slice_set}
 use Rattle.lease_core.specs.declared.lease.Line.{Line}
-use Rattle.lease_core.specs.Lines.{no_line}
-use Rattle.lease_core.specs.State.{last_or}
 use Rattle.atomic_table.specs.Seated.{TableId}
 use Rattle.lease_words.specs.declared.item.Item.{Item}
 use Rattle.lease_words.specs.declared.view.Shape.{Shape}
@@ -13,6 +11,7 @@ use Rattle.lease_words.specs.declared.view.LibrarySession.{LibrarySession}
 use Rattle.lease_words.specs.declared.view.LibraryKnows.{LibraryKnows}
 use Rattle.lease_words.specs.declared.view.View.{View}
 use Rattle.lease_words.specs.Leases.{total}
+use Rattle.lease_core.specs.Lines.{last_line}
 
 -- which table it is
 pub record TableRef : Type 0 where
@@ -44,7 +43,7 @@ abbrev pub engine_session : EngineKnows → ℕ → EngineSession
 engine_session e s = slice_index_or e.sessions s no_engine_session
 
 abbrev pub with_engine_session : EngineKnows → ℕ → EngineSession → EngineKnows
-with_engine_session e s x = record { sessions = slice_set e.sessions s x; beats = e.beats; taking = e.taking }
+with_engine_session e s x = record e { sessions = slice_set e.sessions s x }
 
 abbrev pub unheard : Heard
 unheard = record { count = 0; loads = 0 }
@@ -53,14 +52,14 @@ abbrev pub heard_of : EngineKnows → ℕ → Heard
 heard_of e library = slice_index_or e.beats (library - 1) unheard
 
 abbrev pub with_heard : EngineKnows → ℕ → Heard → EngineKnows
-with_heard e library x = record { sessions = e.sessions; beats = slice_set e.beats (library - 1) x; taking = e.taking }
+with_heard e library x = record e { beats = slice_set e.beats (library - 1) x }
 
 -- the items that were taken of a library
 abbrev pub taken_of : EngineSession → ℕ → List Item
 taken_of es library = slice_index_or es.taken (library - 1) []
 
 abbrev pub with_taken : EngineSession → ℕ → List Item → EngineSession
-with_taken es library items = record { base = es.base; lines = es.lines; words = es.words; looks = es.looks; taken = slice_set es.taken (library - 1) items; published = es.published }
+with_taken es library items = record es { taken = slice_set es.taken (library - 1) items }
 
 abbrev pub no_library_session : LibrarySession
 no_library_session = record { leases = []; items = []; words = []; looks = 0; taken = 0; takes = 0; published = 0; arrivals = 0 }
@@ -69,24 +68,24 @@ abbrev pub library_session : LibraryKnows → ℕ → LibrarySession
 library_session k s = slice_index_or k.sessions s no_library_session
 
 abbrev pub with_library_session : LibraryKnows → ℕ → LibrarySession → LibraryKnows
-with_library_session k s x = record { number = k.number; sessions = slice_set k.sessions s x; beats = k.beats; sending = k.sending }
+with_library_session k s x = record k { sessions = slice_set k.sessions s x }
 
 -- what a seat knows of a session, and a seat that knows this of it and else the same
 abbrev pub engine_at : EngineView → ℕ → EngineSession
 engine_at v s = engine_session v.knows s
 
 abbrev pub with_engine_at : EngineView → ℕ → EngineSession → EngineView
-with_engine_at v s x = record { table = v.table; knows = with_engine_session v.knows s x; settled = v.settled }
+with_engine_at v s x = record v { knows = with_engine_session v.knows s x }
 
 abbrev pub library_at : LibraryView → ℕ → LibrarySession
 library_at v s = library_session v.knows s
 
 abbrev pub with_library_at : LibraryView → ℕ → LibrarySession → LibraryView
-with_library_at v s x = record { table = v.table; knows = with_library_session v.knows s x }
+with_library_at v s x = record v { knows = with_library_session v.knows s x }
 
 -- the library whose lease is the last
 abbrev pub last_library : EngineSession → ℕ
-last_library es = (last_or no_line es.lines).library
+last_library es = (last_line es.lines).library
 
 -- the lines of the leases that this table granted
 abbrev pub granted_lines : ℕ → List Line → List Line
@@ -103,12 +102,8 @@ abbrev pub pending : EngineSession → ℕ
 pending es = shown_sends es (last_library es) - length (taken_of es (last_library es))
 
 -- a seat that has done nothing
-abbrev pub repeated : {A : Type 0} → ℕ → A → List A
-repeated zero x = []
-repeated (suc n) x = x ∷ repeated n x
-
 abbrev pub new_engine_session : Shape → ℕ → EngineSession
-new_engine_session shape s = record { base = base_of shape s; lines = lines_before shape s; words = []; looks = 0; taken = repeated shape.libraries []; published = 0 }
+new_engine_session shape s = record { base = base_of shape s; lines = lines_before shape s; words = []; looks = 0; taken = replicate shape.libraries []; published = 0 }
 
 -- the first n sessions from number s on
 abbrev pub new_engine_sessions : Shape → ℕ → ℕ → List EngineSession
@@ -116,10 +111,10 @@ new_engine_sessions shape s zero = []
 new_engine_sessions shape s (suc n) = new_engine_session shape s ∷ new_engine_sessions shape (suc s) n
 
 abbrev pub new_engine : Shape → EngineKnows
-new_engine shape = record { sessions = new_engine_sessions shape 0 shape.sessions; beats = repeated shape.libraries unheard; taking = 0 }
+new_engine shape = record { sessions = new_engine_sessions shape 0 shape.sessions; beats = replicate shape.libraries unheard; taking = 0 }
 
 abbrev pub new_library : Shape → ℕ → LibraryKnows
-new_library shape number = record { number = number; sessions = repeated shape.sessions no_library_session; beats = 0; sending = 0 }
+new_library shape number = record { number = number; sessions = replicate shape.sessions no_library_session; beats = 0; sending = 0 }
 
 -- n libraries from this number on
 abbrev pub new_libraries : Shape → ℕ → ℕ → List LibraryKnows
@@ -153,11 +148,11 @@ other_libraries (k ∷ ks) = ks
 
 -- a view without its first library, and that library alone
 abbrev pub without_first : View → View
-without_first v = record { shape = v.shape; engine = v.engine; knows = v.knows; libraries = other_libraries v.libraries }
+without_first v = record v { libraries = other_libraries v.libraries }
 
 abbrev pub first_alone : View → View
 first_alone v = library_view v.shape (first_library v.libraries)
 
 -- a library comes into the engine's view
 abbrev pub with_first : View → View → View
-with_first v w = record { shape = v.shape; engine = v.engine; knows = v.knows; libraries = first_library w.libraries ∷ v.libraries }
+with_first v w = record v { libraries = first_library w.libraries ∷ v.libraries }

@@ -1,11 +1,15 @@
 //! What the engine does at a table.
-ghost use Rattle.std.specs.Prelude.{◌≡◌, ◌+◌, ◌<◌, ◌≤◌, ◌↔◌, false, true, [], ◌∷◌, length, IsNone, IfNone, IfSome};
+ghost use Rattle.std.specs.Prelude.{◌≡◌, ◌≢◌, ℕ, ◌+◌, ◌<◌, ◌≤◌, ◌↔◌, false, true, [], ◌∷◌, ◌++◌, length, IsNone, IfNone, IfSome};
 ghost use mathlib.Core.List.{IsPrefix};
+ghost use Rattle.lease_core.specs.declared.limits.TheConstants.{MOST_LEASES};
 ghost use Rattle.lease_core.specs.Lines.{word_of, raised};
 ghost use Rattle.lease_words.specs.Facts.{OthersTaken};
 ghost use Rattle.lease_words.specs.Leases.{Each, AreLines, IsNotOlder, is_running};
+ghost use Rattle.lease_core.specs.declared.limits.TheConstants.{MOST_LEASES};
+ghost use Rattle.lease_core.specs.Lines.{missing_sends};
+ghost use Rattle.lease_core.specs.Showable.{IsShowable, CanTimeOut};
 ghost use Rattle.lease_words.specs.Views.{engine_at, with_engine_at, heard_of, with_heard, pending, last_library, taken_of, library_session};
-ghost use Rattle.lease_words.specs.Sees.{looked, granted, revoked, took, has_published, heard};
+ghost use Rattle.lease_words.specs.Sees.{after_look, after_grant, after_revoke, after_take, after_publish, after_beats};
 ghost use Rattle.lease_words.specs.Tells.{IsSettled};
 
 use crate::engine_seat::EngineSeat;
@@ -26,18 +30,23 @@ impl Leases {
         requires table { seat.old.table ≡ self.now }
         requires session { s < self.now.shape.sessions }
 
-        ensures seat { seat.new ≡ with_engine_at seat.old s (looked (engine_at seat.old s) result) }
-        ensures session { engine_at seat.new s ≡ looked (engine_at seat.old s) result }
+        ensures seat { seat.new ≡ with_engine_at seat.old s (after_look (engine_at seat.old s) result) }
+        ensures session { engine_at seat.new s ≡ after_look (engine_at seat.old s) result }
         ensures word { word_of (raised (engine_at seat.old s).lines result) ≡ result }
 
         // No word is older than one that was seen or told of.
         ensures later { Each (λ seen. IsNotOlder seen result) (engine_at seat.old s).words }
         ensures lines { AreLines (engine_at seat.old s).base self.now.shape.libraries (raised (engine_at seat.old s).lines result) }
 
+        // A registry whose lines are the seat's can be shown the word, and the sends that it then
+        // records are as many as wait here to be taken.
+        ensures showable { IsShowable (engine_at seat.old s).lines result }
+        ensures pending { pending (engine_at seat.new s) ≡ pending (engine_at seat.old s) + missing_sends (engine_at seat.old s).lines result }
+
         // At most as many sends as the lane is deep weren't taken, all of them the last lease's.
-        ensures within { pending (looked (engine_at seat.old s) result) ≤ self.now.shape.depth }
-        ensures others { OthersTaken self.now.shape.libraries (looked (engine_at seat.old s) result) }
-        ensures settled { Each (IsSettled s (looked (engine_at seat.old s) result)) seat.old.settled }
+        ensures within { pending (after_look (engine_at seat.old s) result) ≤ self.now.shape.depth }
+        ensures others { OthersTaken self.now.shape.libraries (after_look (engine_at seat.old s) result) }
+        ensures settled { Each (IsSettled s (after_look (engine_at seat.old s) result)) seat.old.settled }
     {
         let n = self
             .table
@@ -55,14 +64,20 @@ impl Leases {
         requires session { s < self.now.shape.sessions }
         requires active { is_running (engine_at seat.old s).lines ≡ true }
 
-        ensures seat { seat.new ≡ with_engine_at seat.old s (revoked (engine_at seat.old s) result) }
-        ensures session { engine_at seat.new s ≡ revoked (engine_at seat.old s) result }
+        ensures seat { seat.new ≡ with_engine_at seat.old s (after_revoke (engine_at seat.old s) result) }
+        ensures session { engine_at seat.new s ≡ after_revoke (engine_at seat.old s) result }
         ensures word { word_of (raised (engine_at seat.old s).lines result) ≡ result }
         ensures later { Each (λ seen. IsNotOlder seen result) (engine_at seat.old s).words }
-        ensures lines { AreLines (engine_at seat.old s).base self.now.shape.libraries (revoked (engine_at seat.old s) result).lines }
-        ensures within { pending (revoked (engine_at seat.old s) result) ≤ self.now.shape.depth }
-        ensures others { OthersTaken self.now.shape.libraries (revoked (engine_at seat.old s) result) }
-        ensures settled { Each (IsSettled s (revoked (engine_at seat.old s) result)) seat.old.settled }
+        ensures lines { AreLines (engine_at seat.old s).base self.now.shape.libraries (after_revoke (engine_at seat.old s) result).lines }
+
+        ensures ended { is_running (engine_at seat.new s).lines ≡ false }
+
+        // A registry whose lines are the seat's can record the timeout.
+        ensures can_time_out { CanTimeOut (engine_at seat.old s).lines result }
+        ensures pending { pending (engine_at seat.new s) ≡ pending (engine_at seat.old s) + missing_sends (engine_at seat.old s).lines result }
+        ensures within { pending (after_revoke (engine_at seat.old s) result) ≤ self.now.shape.depth }
+        ensures others { OthersTaken self.now.shape.libraries (after_revoke (engine_at seat.old s) result) }
+        ensures settled { Each (IsSettled s (after_revoke (engine_at seat.old s) result)) seat.old.settled }
     {
         let n = self
             .table
@@ -81,14 +96,16 @@ impl Leases {
         requires table { seat.old.table ≡ self.now }
         requires session { s < self.now.shape.sessions }
         requires library { (1 ≤ library) × (library ≤ self.now.shape.libraries) }
-        requires room { length (engine_at seat.old s).lines < 16777215 }
+        requires room { length (engine_at seat.old s).lines < MOST_LEASES }
         requires ended { is_running (engine_at seat.old s).lines ≡ false }
         requires taken { pending (engine_at seat.old s) ≡ 0 }
 
-        ensures seat { seat.new ≡ with_engine_at seat.old s (granted (engine_at seat.old s) library) }
-        ensures session { engine_at seat.new s ≡ granted (engine_at seat.old s) library }
+        ensures seat { seat.new ≡ with_engine_at seat.old s (after_grant (engine_at seat.old s) library) }
+        ensures session { engine_at seat.new s ≡ after_grant (engine_at seat.old s) library }
         ensures lease { result ≡ length (engine_at seat.old s).lines + 1 }
-        ensures lines { AreLines (engine_at seat.old s).base self.now.shape.libraries (granted (engine_at seat.old s) library).lines }
+        ensures pending { pending (engine_at seat.new s) ≡ 0 }
+        ensures active { is_running (engine_at seat.new s).lines ≡ true }
+        ensures lines { AreLines (engine_at seat.old s).base self.now.shape.libraries (after_grant (engine_at seat.old s) library).lines }
     {
         let shared = &self.table.shared;
         let lease = seat.rows[s as usize].lease + 1;
@@ -116,11 +133,21 @@ impl Leases {
 
         ensures none { IsNone result ↔ (pending (engine_at seat.old s) ≡ 0) }
         ensures same { IfNone result (seat.new ≡ seat.old) }
-        ensures item { IfSome result (λ item. seat.new ≡ with_engine_at seat.old s (took (engine_at seat.old s) (last_library (engine_at seat.old s)) (item ∷ []))) }
-        ensures session { IfSome result (λ item. engine_at seat.new s ≡ took (engine_at seat.old s) (last_library (engine_at seat.old s)) (item ∷ [])) }
+        ensures item { IfSome result (λ item. seat.new ≡ with_engine_at seat.old s (after_take (engine_at seat.old s) (last_library (engine_at seat.old s)) (item ∷ []))) }
+        ensures session { IfSome result (λ item. engine_at seat.new s ≡ after_take (engine_at seat.old s) (last_library (engine_at seat.old s)) (item ∷ [])) }
 
-        // Of each library that was settled, what was taken begins what it sent.
-        ensures settled { IfSome result (λ item. Each (λ k. IsPrefix (taken_of (took (engine_at seat.old s) (last_library (engine_at seat.old s)) (item ∷ [])) k.number) (library_session k s).items) seat.old.settled) }
+        // What was taken of that library grew by the item, one item less waits, and what was taken
+        // of the others is as it was.
+        ensures taken { IfSome result (λ item. taken_of (engine_at seat.new s) (last_library (engine_at seat.old s)) ≡ taken_of (engine_at seat.old s) (last_library (engine_at seat.old s)) ++ item ∷ []) }
+        ensures pending { IfSome result (λ item. pending (engine_at seat.old s) ≡ pending (engine_at seat.new s) + 1) }
+        ensures lanes { IfSome result (λ item. (library : ℕ) → 1 ≤ library → library ≢ last_library (engine_at seat.old s) → taken_of (engine_at seat.new s) library ≡ taken_of (engine_at seat.old s) library) }
+
+        ensures others { IfSome result (λ item. OthersTaken self.now.shape.libraries (engine_at seat.new s)) }
+
+        // Of each library that was settled, what was taken begins what it sent, and its lane goes on
+        // being told by the lines where a look said so.
+        ensures settled { IfSome result (λ item. Each (λ k. IsPrefix (taken_of (after_take (engine_at seat.old s) (last_library (engine_at seat.old s)) (item ∷ [])) k.number) (library_session k s).items) seat.old.settled) }
+        ensures told { IfSome result (λ item. Each (IsSettled s (engine_at seat.old s)) seat.old.settled → Each (IsSettled s (engine_at seat.new s)) seat.new.settled) }
     {
         let row = seat.rows[s as usize];
         if row.pending == 0 {
@@ -141,8 +168,8 @@ impl Leases {
         requires table { seat.old.table ≡ self.now }
         requires session { s < self.now.shape.sessions }
         requires more { (engine_at seat.old s).published ≤ count }
-        ensures seat { seat.new ≡ with_engine_at seat.old s (has_published (engine_at seat.old s) count) }
-        ensures session { engine_at seat.new s ≡ has_published (engine_at seat.old s) count }
+        ensures seat { seat.new ≡ with_engine_at seat.old s (after_publish (engine_at seat.old s) count) }
+        ensures session { engine_at seat.new s ≡ after_publish (engine_at seat.old s) count }
     {
         self.table
             .shared
@@ -153,7 +180,8 @@ impl Leases {
     pub fn beats(&self, seat: &mut EngineSeat, library: u8) -> u64
         requires table { seat.old.table ≡ self.now }
         requires library { (1 ≤ library) × (library ≤ self.now.shape.libraries) }
-        ensures seat { seat.new ≡ record seat.old { knows = with_heard seat.old.knows library (heard (heard_of seat.old.knows library) result) } }
+        ensures seat { seat.new ≡ record seat.old { knows = with_heard seat.old.knows library (after_beats (heard_of seat.old.knows library) result) } }
+        ensures heard { heard_of seat.new.knows library ≡ after_beats (heard_of seat.old.knows library) result }
         ensures later { (heard_of seat.old.knows library).count ≤ result }
     {
         self.table

@@ -12,6 +12,7 @@ mod library_calls;
 mod library_seat;
 mod making;
 mod meeting;
+mod outset;
 mod plays;
 mod rows;
 mod rule;
@@ -23,6 +24,3 @@ pub use item::{Item, Lost, SendError, Sent};
 pub use laws::settled_lanes_are_taken;
 pub use leases::Leases;
 pub use library_seat::LibrarySeat;
-
-#[cfg(test)]
-mod tests;

@@ -1,9 +1,9 @@
 //! What a library does at a table.
-ghost use Rattle.std.specs.Prelude.{◌≡◌, ◌≢◌, ◌<◌, ◌≤◌, if◌then◌else◌, OnOk, IfOk, IfErr};
+ghost use Rattle.std.specs.Prelude.{◌≡◌, ◌≢◌, ◌<◌, ◌≤◌, true, if◌then◌else◌, OnOk, IfOk, IfErr};
 ghost use Rattle.lease_core.specs.Lines.{opening_word, heir_named};
-ghost use Rattle.lease_words.specs.Leases.{Each, IsNotOlder, held_lease, held_count, shows_lease};
+ghost use Rattle.lease_words.specs.Leases.{Each, AreBelow, IsNotOlder, held_lease, held_count, shows_lease};
 ghost use Rattle.lease_words.specs.Views.{library_at, with_library_at};
-ghost use Rattle.lease_words.specs.Sees.{saw, saw_published, lost_to, gave_back, has_beaten};
+ghost use Rattle.lease_words.specs.Sees.{after_see, after_arrival, after_loss, after_release, after_beat};
 ghost use Rattle.lease_words.specs.Answers.{released_word, next_beat, IsLoss};
 
 use crate::item::Lost;
@@ -28,9 +28,12 @@ impl Leases {
     pub fn see(&self, seat: &mut LibrarySeat, s: u16) -> Word
         requires table { seat.old.table ≡ self.now }
 
-        ensures seat { s < self.now.shape.sessions → seat.new ≡ with_library_at seat.old s (saw seat.old.knows.number (library_at seat.old s) result) }
-        ensures session { s < self.now.shape.sessions → library_at seat.new s ≡ saw seat.old.knows.number (library_at seat.old s) result }
+        ensures seat { s < self.now.shape.sessions → seat.new ≡ with_library_at seat.old s (after_see seat.old.knows.number (library_at seat.old s) result) }
+        ensures session { s < self.now.shape.sessions → library_at seat.new s ≡ after_see seat.old.knows.number (library_at seat.old s) result }
         ensures held { s < self.now.shape.sessions → held_lease (library_at seat.new s).leases ≡ (if shows_lease seat.old.knows.number result then result.lease else 0) }
+
+        // A lease that it didn't hold before is above all that it ever had.
+        ensures newer { s < self.now.shape.sessions → shows_lease seat.old.knows.number result ≡ true → held_lease (library_at seat.old s).leases ≢ result.lease → AreBelow result.lease (library_at seat.old s).leases }
 
         // No word is older than one that was seen or told of.
         ensures later { s < self.now.shape.sessions → Each (λ seen. IsNotOlder seen result) (library_at seat.old s).words }
@@ -46,12 +49,26 @@ impl Leases {
         word
     }
 
+    /// The lease of a session that the seat holds, or 0. It makes no step; for a session that the
+    /// table doesn't have it is 0.
+    pub fn held(&self, seat: &LibrarySeat, s: u16) -> u32
+        requires table { seat.now.table ≡ self.now }
+        ensures lease { result ≡ held_lease (library_at seat.now s).leases }
+        ensures session { 0 < result → s < self.now.shape.sessions }
+    {
+        let sessions = seat.rows.len();
+        if s as usize >= sessions {
+            return 0;
+        }
+        read_word(seat.rows[s as usize].word).lease
+    }
+
     /// Loads the published count of a session, and answers it. For a session that the table
     /// doesn't have it is 0, with no load.
     pub fn arrived(&self, seat: &mut LibrarySeat, s: u16) -> u64
         requires table { seat.old.table ≡ self.now }
-        ensures seat { s < self.now.shape.sessions → seat.new ≡ with_library_at seat.old s (saw_published (library_at seat.old s) result) }
-        ensures session { s < self.now.shape.sessions → library_at seat.new s ≡ saw_published (library_at seat.old s) result }
+        ensures seat { s < self.now.shape.sessions → seat.new ≡ with_library_at seat.old s (after_arrival (library_at seat.old s) result) }
+        ensures session { s < self.now.shape.sessions → library_at seat.new s ≡ after_arrival (library_at seat.old s) result }
         ensures later { s < self.now.shape.sessions → (library_at seat.old s).published ≤ result }
         ensures elsewhere { self.now.shape.sessions ≤ s → (seat.new ≡ seat.old) × (result ≡ 0) }
     {
@@ -66,7 +83,7 @@ impl Leases {
     /// Raises the count of the library's beats by one, but where it is 2^64 - 1.
     pub fn beat(&self, seat: &mut LibrarySeat)
         requires table { seat.old.table ≡ self.now }
-        ensures seat { seat.new ≡ record seat.old { knows = has_beaten seat.old.knows (next_beat seat.old.knows.beats) } }
+        ensures seat { seat.new ≡ record seat.old { knows = after_beat seat.old.knows (next_beat seat.old.knows.beats) } }
     {
         if seat.beats == u64::MAX {
             return;
@@ -85,9 +102,9 @@ impl Leases {
         requires held { (0 < lease) × (held_lease (library_at seat.old s).leases ≡ lease) }
 
         ensures count { IfOk result (λ n. n ≡ held_count (library_at seat.old s).leases) }
-        ensures released { OnOk result (seat.new ≡ with_library_at seat.old s (gave_back (library_at seat.old s) 0 (released_word lease seat.old.knows.number (held_count (library_at seat.old s).leases)))) }
+        ensures released { OnOk result (seat.new ≡ with_library_at seat.old s (after_release (library_at seat.old s) 0 (released_word lease seat.old.knows.number (held_count (library_at seat.old s).leases)))) }
         ensures lost { IfErr result (λ e. IsLoss (library_at seat.old s) e.seen) }
-        ensures forgotten { IfErr result (λ e. seat.new ≡ with_library_at seat.old s (lost_to (library_at seat.old s) e.seen)) }
+        ensures forgotten { IfErr result (λ e. seat.new ≡ with_library_at seat.old s (after_loss (library_at seat.old s) e.seen)) }
     {
         let owner = seat.number;
         self.give_back(seat, s, owner)
@@ -109,9 +126,9 @@ impl Leases {
         requires heir { (1 ≤ heir) × (heir ≤ self.now.shape.libraries) × (heir ≢ seat.old.knows.number) }
 
         ensures count { IfOk result (λ n. n ≡ held_count (library_at seat.old s).leases) }
-        ensures released { OnOk result (seat.new ≡ with_library_at seat.old s (gave_back (library_at seat.old s) heir (released_word lease heir (held_count (library_at seat.old s).leases)))) }
+        ensures released { OnOk result (seat.new ≡ with_library_at seat.old s (after_release (library_at seat.old s) heir (released_word lease heir (held_count (library_at seat.old s).leases)))) }
         ensures lost { IfErr result (λ e. IsLoss (library_at seat.old s) e.seen) }
-        ensures forgotten { IfErr result (λ e. seat.new ≡ with_library_at seat.old s (lost_to (library_at seat.old s) e.seen)) }
+        ensures forgotten { IfErr result (λ e. seat.new ≡ with_library_at seat.old s (after_loss (library_at seat.old s) e.seen)) }
     {
         self.give_back(seat, s, heir)
     }
@@ -125,9 +142,9 @@ impl Leases {
         requires owner { (1 ≤ owner) × (owner ≤ self.now.shape.libraries) }
 
         ensures count { IfOk result (λ n. n ≡ held_count (library_at seat.old s).leases) }
-        ensures released { OnOk result (seat.new ≡ with_library_at seat.old s (gave_back (library_at seat.old s) (heir_named owner seat.old.knows.number) (released_word (held_lease (library_at seat.old s).leases) owner (held_count (library_at seat.old s).leases)))) }
+        ensures released { OnOk result (seat.new ≡ with_library_at seat.old s (after_release (library_at seat.old s) (heir_named owner seat.old.knows.number) (released_word (held_lease (library_at seat.old s).leases) owner (held_count (library_at seat.old s).leases)))) }
         ensures lost { IfErr result (λ e. IsLoss (library_at seat.old s) e.seen) }
-        ensures forgotten { IfErr result (λ e. seat.new ≡ with_library_at seat.old s (lost_to (library_at seat.old s) e.seen)) }
+        ensures forgotten { IfErr result (λ e. seat.new ≡ with_library_at seat.old s (after_loss (library_at seat.old s) e.seen)) }
     {
         let shared = &self.table.shared;
         let word = seat.rows[s as usize].word;

@@ -28,6 +28,18 @@ impl Model for LibrarySeat {
     ghost invariant = { λ s. IsLibrary s.seat s.number s.beats s.rows.items };
 }
 
+impl LibrarySeat {
+    ghost use Rattle.std.specs.Prelude.{◌≡◌, ◌≤◌};
+
+    /// The number of the library whose seat it is, which is one of its table's, from 1.
+    pub fn number(&self) -> u8
+        ensures number { result ≡ self.now.knows.number }
+        ensures range { (1 ≤ result) × (result ≤ self.now.table.shape.libraries) }
+    {
+        self.number
+    }
+}
+
 impl fmt::Debug for LibrarySeat {
     fn fmt<W: fmt::Write>(&self, f: &mut fmt::Formatter<W>) -> fmt::Result {
         f.pad("LibrarySeat { .. }")

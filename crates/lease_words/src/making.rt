@@ -1,20 +1,23 @@
 //! How a table is made.
-ghost use Rattle.std.specs.Prelude.{◌≡◌, ◌+◌, ◌*◌, ◌<◌, ◌≤◌, [], length, IfOk, OnOk};
-ghost use Rattle.lease_words.specs.Layout.{word_count, slot_count};
-ghost use Rattle.lease_words.specs.Views.{first_library, other_libraries, new_library, new_libraries};
-ghost use Rattle.lease_words.specs.Tokens.{new_engine_seat, new_library_seat, new_library_seats};
+ghost use Rattle.std.specs.Prelude.{◌≡◌, ℕ, ◌*◌, ◌<◌, ◌≤◌, [], length, slice_get, Some, IfOk, OnOk};
+ghost use Rattle.lease_core.specs.Kept.{Kept};
+ghost use Rattle.lease_words.specs.Leases.{Each};
+ghost use Rattle.lease_words.specs.Registries.{kept_lines, lines_of_each, IsEndedJournal};
+ghost use Rattle.lease_words.specs.Views.{engine_at, pending, first_library, other_libraries, new_library, new_libraries};
+ghost use Rattle.lease_words.specs.Tokens.{IsOutset, new_engine_seat, new_library_seat, new_library_seats};
 
 use crate::engine_seat::EngineSeat;
-use crate::layout::{LANE, STRETCH, beat_word};
+use crate::layout::LANE;
 use crate::leases::Leases;
 use crate::library_seat::LibrarySeat;
+use crate::outset::Outset;
 use crate::plays::LibraryMoves;
-use crate::rows::{EngineRow, LibraryRow};
+use crate::rows::LibraryRow;
 use crate::view::Shape;
 use atomic_table::Table;
 use gate_io::NoMemory;
+use lease_core::Registry;
 use std::alloc::Global;
-use std::collections::LinkedList;
 
 impl Leases {
     /// A table for as many sessions, at most 64, and libraries, at most 16, whose lanes are
@@ -36,7 +39,61 @@ impl Leases {
         ensures engine { IfOk result (λ r. r.1 ≡ new_engine_seat r.0) }
         ensures libraries { IfOk result (λ r. r.2.items ≡ new_library_seats r.0 1 libraries) }
     {
-        let (leases, mut engine) = Leases::lay_out(alloc, sessions, libraries, depth, sends)?;
+        Leases::make(alloc, sessions, &[], libraries, depth, sends)
+    }
+
+    /// A table like `new`, for as many sessions as there are journals, at most 64, of which none
+    /// has an active lease and none more than 16,777,215 leases. The engine's lines of each session
+    /// are those of its journal, their sends count as taken, and the next grant gives the number
+    /// behind the last of them. What is sent and taken from now on is counted from 0.
+    pub fn resume(
+        alloc: Global,
+        journals: &[Registry],
+        libraries: u8,
+        depth: u8,
+        sends: u32,
+    ) -> Result<(Leases, EngineSeat, Vec<LibrarySeat>), NoMemory>
+        requires sessions { length journals.now ≤ 64 }
+        requires journals { Each IsEndedJournal journals.now }
+        requires libraries { libraries ≤ 16 }
+        requires depth { (1 ≤ depth) × (depth ≤ 16) }
+        requires sends { 1 ≤ sends }
+        ensures shape { IfOk result (λ r. r.0.shape ≡ record { sessions = length journals.now; libraries = libraries; depth = depth; sends = sends; before = lines_of_each journals.now }) }
+        ensures engine { IfOk result (λ r. r.1 ≡ new_engine_seat r.0) }
+        ensures libraries { IfOk result (λ r. r.2.items ≡ new_library_seats r.0 1 libraries) }
+
+        // By session: the lines are the journal's, and nothing waits to be taken.
+        ensures lines { IfOk result (λ r. (s : ℕ) (journal : Kept) → slice_get journals.now s ≡ Some journal → (engine_at r.1 s).lines ≡ kept_lines journal) }
+        ensures base { IfOk result (λ r. (s : ℕ) → (engine_at r.1 s).base ≡ length (engine_at r.1 s).lines) }
+        ensures taken { IfOk result (λ r. (s : ℕ) → pending (engine_at r.1 s) ≡ 0) }
+    {
+        let sessions = journals.len() as u16;
+        Leases::make(alloc, sessions, journals, libraries, depth, sends)
+    }
+
+    // A table for as many sessions, of which the first had the leases of these journals before.
+    fn make(
+        alloc: Global,
+        sessions: u16,
+        journals: &[Registry],
+        libraries: u8,
+        depth: u8,
+        sends: u32,
+    ) -> Result<(Leases, EngineSeat, Vec<LibrarySeat>), NoMemory>
+        requires sessions { (sessions ≤ 64) × (length journals.now ≤ sessions) }
+        requires journals { Each IsEndedJournal journals.now }
+        requires libraries { libraries ≤ 16 }
+        requires depth { (1 ≤ depth) × (depth ≤ 16) }
+        requires sends { 1 ≤ sends }
+        ensures shape { IfOk result (λ r. r.0.shape ≡ record { sessions = sessions; libraries = libraries; depth = depth; sends = sends; before = lines_of_each journals.now }) }
+        ensures engine { IfOk result (λ r. r.1 ≡ new_engine_seat r.0) }
+        ensures libraries { IfOk result (λ r. r.2.items ≡ new_library_seats r.0 1 libraries) }
+        ensures lines { IfOk result (λ r. (s : ℕ) (journal : Kept) → slice_get journals.now s ≡ Some journal → (engine_at r.1 s).lines ≡ kept_lines journal) }
+        ensures base { IfOk result (λ r. (s : ℕ) → (engine_at r.1 s).base ≡ length (engine_at r.1 s).lines) }
+        ensures taken { IfOk result (λ r. (s : ℕ) → pending (engine_at r.1 s) ≡ 0) }
+    {
+        let outset = Leases::gather(alloc, sessions, journals, libraries)?;
+        let (leases, mut engine) = Leases::lay_out(alloc, outset, depth, sends)?;
         let mut seats = Vec::with_capacity(alloc, libraries as usize)?;
         for number in 1..libraries + 1 {
             seats.push_reserved(leases.deal(alloc, &mut engine, number)?);
@@ -44,30 +101,56 @@ impl Leases {
         Ok((leases, engine, seats))
     }
 
+    // What the table begins with.
+    fn gather(
+        alloc: Global,
+        sessions: u16,
+        journals: &[Registry],
+        libraries: u8,
+    ) -> Result<Outset, NoMemory>
+        requires sessions { (sessions ≤ 64) × (length journals.now ≤ sessions) }
+        requires journals { Each IsEndedJournal journals.now }
+        requires libraries { libraries ≤ 16 }
+        ensures outset { IfOk result (λ o. IsOutset o) }
+        ensures before { IfOk result (λ o. o.before ≡ lines_of_each journals.now) }
+        ensures sizes { IfOk result (λ o. (o.sessions ≡ sessions) × (o.libraries ≡ libraries)) }
+    {
+        let mut outset = Outset::new(alloc, sessions, libraries)?;
+        for (s, journal) in journals.iter().enumerate() {
+            outset.add(alloc, s as u16, journal)?;
+        }
+        Ok(outset)
+    }
+
     // The table, with a seat that is the engine's and all libraries'.
     fn lay_out(
         alloc: Global,
-        sessions: u16,
-        libraries: u8,
+        outset: Outset,
         depth: u8,
         sends: u32,
     ) -> Result<(Leases, EngineSeat), NoMemory>
-        requires sessions { sessions ≤ 64 }
-        requires libraries { libraries ≤ 16 }
+        requires outset { IsOutset outset }
+        requires sessions { outset.sessions ≤ 64 }
+        requires libraries { outset.libraries ≤ 16 }
         requires depth { (1 ≤ depth) × (depth ≤ 16) }
         requires sends { 1 ≤ sends }
-        ensures shape { IfOk result (λ r. r.0.shape ≡ record { sessions = sessions; libraries = libraries; depth = depth; sends = sends; before = [] }) }
-        ensures engine { IfOk result (λ r. r.1 ≡ record (new_engine_seat r.0) { settled = new_libraries r.0.shape 1 libraries }) }
+        ensures shape { IfOk result (λ r. r.0.shape ≡ record { sessions = outset.sessions; libraries = outset.libraries; depth = depth; sends = sends; before = outset.before }) }
+        ensures engine { IfOk result (λ r. r.1 ≡ record (new_engine_seat r.0) { settled = new_libraries r.0.shape 1 outset.libraries }) }
     {
+        let Outset {
+            sessions,
+            libraries,
+            before,
+            rows,
+            words,
+        } = outset;
         let shape = Shape {
             sessions: u64::from(sessions),
             libraries: u64::from(libraries),
             depth: u64::from(depth),
             sends: u64::from(sends),
-            before: LinkedList::new(alloc),
+            before,
         };
-        let rows = vec![in alloc; EngineRow::NEW; sessions as usize]?;
-        let words = vec![in alloc; 0u64; word_count(sessions, libraries)]?;
         let slots = sessions as usize * libraries as usize * LANE;
         let (table, seat) = Table::vacant(alloc, words.as_slice(), slots, &shape)?;
         let leases = Leases {
@@ -114,12 +197,4 @@ impl Leases {
     {
         self.libraries as u8
     }
-}
-
-// How many words the table has.
-fn word_count(sessions: u16, libraries: u8) -> usize
-    requires { sessions ≤ 64 }
-    ensures { result ≡ word_count sessions libraries }
-{
-    beat_word(sessions as usize, libraries) + STRETCH
 }

@@ -2,7 +2,7 @@
 ghost use Rattle.std.specs.Prelude.{◌≡◌, ◌+◌, ◌^◌, ◌<◌, ◌≤◌, ◌≢◌, length, OnOk, IfOk, IfErr, [], ◌∷◌};
 ghost use Rattle.lease_words.specs.Leases.{held_lease, held_count};
 ghost use Rattle.lease_words.specs.Views.{library_at, with_library_at};
-ghost use Rattle.lease_words.specs.Sees.{saw_taken, sent};
+ghost use Rattle.lease_words.specs.Sees.{after_taken_load, after_send};
 ghost use Rattle.lease_words.specs.Answers.{active_word, HasLoaded, IsRefusal, IsOffering, HasOffered, HasFailed};
 
 use crate::item::{Item, SendError, Sent};
@@ -38,7 +38,7 @@ impl Leases {
         ensures others { seat.new ≡ with_library_at seat.old s (library_at seat.new s) }
 
         ensures sent { IfOk result (λ r. (r.lease ≡ item.lease) × (r.ordinal ≡ held_count (library_at seat.old s).leases + 1)) }
-        ensures committed { OnOk result (library_at seat.new s ≡ sent (saw_taken (library_at seat.old s) (library_at seat.new s).taken) (item ∷ []) (active_word item.lease seat.old.knows.number (held_count (library_at seat.old s).leases + 1))) }
+        ensures committed { OnOk result (library_at seat.new s ≡ after_send (after_taken_load (library_at seat.old s) (library_at seat.new s).taken) (item ∷ []) (active_word item.lease seat.old.knows.number (held_count (library_at seat.old s).leases + 1))) }
         ensures room { OnOk result (length (library_at seat.old s).items ≢ (library_at seat.new s).taken + self.now.shape.depth) }
         ensures left { OnOk result (held_count (library_at seat.old s).leases ≢ self.now.shape.sends) }
         ensures refused { IfErr result (λ e. IsRefusal self.now.shape (library_at seat.old s) (library_at seat.new s) (library_at seat.new s).taken e.0) }

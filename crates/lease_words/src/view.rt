@@ -15,15 +15,17 @@ pub struct Shape {
 }
 
 /// A lease as its library has it.
-pub struct Held {
+pub struct LibraryLease {
     pub lease: u64,
     pub count: u64,
     pub ending: Ending,
 }
 
 /// What the engine knows of a session: the number of leases before the table was made, the lines
-/// of all its leases, the words that it saw, made or was told of, the latest first, the number of
-/// its looks, the items that it took of each library, and the count that it published.
+/// of all its leases, the words that it saw, made or was told of, the number of its looks, the
+/// items that it took of each library, and the count that it published. The words are the latest
+/// first until a meeting, and in no order from then on. A look and a revoke each load the lease
+/// word once, and count as one look; a grant and a meeting count for none.
 pub struct EngineSession {
     pub base: u64,
     pub lines: LinkedList<Line>,
@@ -48,10 +50,12 @@ pub struct EngineKnows {
 }
 
 /// What a library knows of a session: its leases, the latest first, the items that it sent, the
-/// words that it saw, made or was told of, the latest first, the number of its looks, and the
-/// counts that it loaded or was told of, with the number of their loads.
+/// words that it saw, made or was told of, the number of its looks, and the counts that it loaded
+/// or was told of, with the number of their loads. The words are the latest first until a meeting,
+/// and in no order from then on. A `see`, and an exchange that finds another word than the
+/// lease's, each count as one look; an exchange that succeeds makes its word, and counts for none.
 pub struct LibrarySession {
-    pub leases: LinkedList<Held>,
+    pub leases: LinkedList<LibraryLease>,
     pub items: LinkedList<Item>,
     pub words: LinkedList<Word>,
     pub looks: u64,

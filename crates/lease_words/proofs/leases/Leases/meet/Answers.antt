@@ -1,6 +1,6 @@
-use Rattle.std.proofs.Common.{rules, ◌≡◌, [], ap, ◌∙◌}
+use Rattle.std.proofs.Common.{rules, ◌≡◌, ◌<◌, [], sym, ap, subst, ◌∙◌}
 use Rattle.lease_words.specs.Views.{first_library, without_first, first_alone}
-use Rattle.lease_words.proofs.MeetingCalls.{some_words, joins_step, join_told, parts_step, meets_step, meet_told, met_engine, met_library}
+use Rattle.lease_words.proofs.MeetingCalls.{some_words, joins_step, join_told, parts_step, meets_step, meet_told, met_engine, met_library, engine_session_met, library_session_met}
 use Rattle.lease_words.proofs.LibraryCalls.{library_rests}
 use Rattle.lease_words.proofs.EngineCalls.{engine_rests}
 use Rattle.lease_words.proofs.leases.Leases.meet.Goals as goal
@@ -46,3 +46,23 @@ invariant_of-library c =
     let joined = join_told _ _ _ _ _ _ c.library.inside.seat.me.0 (engine_rests _ _ _ c.engine.invariant shape) c.split_seat-moving.ensures.4 c.join_seat.ensures.2 in
     let told = meet_told _ 0 0 _ _ _ _ _ joined c.load.ensures.2 in
     met_library c.library.inside.seat _ _ _ _ _ c.engine.inside.seat.me.0.knows c.library.invariant here (c.engine.invariant.count ∙ ap (λ k. k.sessions) shape) (c.split_seat.ensures.4 ∙ (λ j. (first_alone (told.1 j).0, [])))
+
+pub returns-clause-engine_session : goal.returns-clause-engine_session
+returns-clause-engine_session c s near =
+    let shape : c.engine.inside.seat.me.0.shape ≡ c.self.inside.table.shared.key = search rules in
+    let here : c.library.inside.seat.me.0.shape ≡ c.self.inside.table.shared.key = search rules in
+    let joined = join_told _ _ _ _ _ _ c.library.inside.seat.me.0 (engine_rests _ _ _ c.engine.invariant shape) c.split_seat-moving.ensures.4 c.join_seat.ensures.2 in
+    let told = meet_told _ 0 0 _ _ _ _ _ joined c.load.ensures.2 in
+    engine_session_met _ _ _ _ c.engine.inside.seat.me.0.knows (first_library c.library.inside.seat.me.0.libraries) s
+    (c.engine.invariant.count ∙ ap (λ k. k.sessions) shape) (c.library.invariant.count ∙ ap (λ k. k.sessions) here) (subst (λ n. s < n) (ap (λ t. t.shape.sessions) (sym c.self.view_is)) near)
+    (ap (λ m. m.0.knows) (c.split_seat.ensures.2 ∙ (λ j. (without_first (told.1 j).0, (told.1 j).1)))) (ap (λ v. v.knows) c.engine.view_is) (ap (λ v. v.knows) c.library.view_is)
+
+pub returns-clause-library_session : goal.returns-clause-library_session
+returns-clause-library_session c s near =
+    let shape : c.engine.inside.seat.me.0.shape ≡ c.self.inside.table.shared.key = search rules in
+    let here : c.library.inside.seat.me.0.shape ≡ c.self.inside.table.shared.key = search rules in
+    let joined = join_told _ _ _ _ _ _ c.library.inside.seat.me.0 (engine_rests _ _ _ c.engine.invariant shape) c.split_seat-moving.ensures.4 c.join_seat.ensures.2 in
+    let told = meet_told _ 0 0 _ _ _ _ _ joined c.load.ensures.2 in
+    library_session_met _ _ _ _ c.engine.inside.seat.me.0.knows (first_library c.library.inside.seat.me.0.libraries) s
+    (c.engine.invariant.count ∙ ap (λ k. k.sessions) shape) (c.library.invariant.count ∙ ap (λ k. k.sessions) here) (subst (λ n. s < n) (ap (λ t. t.shape.sessions) (sym c.self.view_is)) near)
+    (ap (λ m. first_library m.0.libraries) (c.split_seat.ensures.4 ∙ (λ j. (first_alone (told.1 j).0, [])))) (ap (λ v. v.knows) c.engine.view_is) (ap (λ v. v.knows) c.library.view_is)

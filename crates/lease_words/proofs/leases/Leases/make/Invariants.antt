@@ -1,7 +1,7 @@
 use Rattle.std.proofs.Common.{◌≡◌, ◌+◌, ◌≤◌}
 use Rattle.std.specs.Vec.{vec_len, vec_capacity}
 use Rattle.lease_words.proofs.MakingCalls.{IsMaking}
-use Rattle.lease_words.proofs.leases.Leases.new.Given as goal
+use Rattle.lease_words.proofs.leases.Leases.make.Given as goal
 
 abbrev pub invariant-loop-number : goal.invariant-loop-number
 invariant-loop-number l = record {
