@@ -1,0 +1,7 @@
+//! Tests of the lease table and of the rings, by their public calls.
+#![tactic(auto)]
+
+#[cfg(test)]
+mod leases;
+#[cfg(test)]
+mod rings;
