@@ -3,7 +3,7 @@ use Rattle.std.specs.Prelude.{◌≡◌, ℕ, ◌+◌, ◌<◌, ◌≤◌, List,
 use Rattle.std.specs.Option.{is_some}
 use Rattle.fix_frame.specs.Cut.{CutPiece, IsCutSoFar, cut}
 use Rattle.fix_frame.specs.Cutting.{Cutting, free}
-use Rattle.gate_io.specs.MemWire.{WireState, door_of, link_at, state_at}
+use Rattle.gate_io.specs.MemWire.{LinkState, WireState, door_of, link_at, state_at}
 use Rattle.gate_io.specs.Wire.{IsOpen}
 use Rattle.gateway_run.specs.Handling.{ConnectionState}
 use Rattle.gateway_run.specs.declared.connections.Connection.{Connection}
@@ -22,9 +22,16 @@ pub record IsCutOn (cutter : Cutting) (connection : Connection) : Type 0 where
   pub counted : connection.state.garbled + length connection.cutter.held ≤ length connection.state.taken
   pub has_room : 4096 ≤ free connection.cutter
 
--- a connection that didn't end is open on the wire, and its bytes are cut
+-- no read or write of a connection fails by a script, and none is blocked
+pub record IsUnscripted (link : LinkState) : Type 0 where
+  pub reads : link.read_fails ≡ false
+  pub writes : link.fails_after ≡ None
+  pub blocks : link.blocks_after ≡ None
+
+-- a connection that didn't end is open on the wire, nothing of it is scripted, and its bytes are cut
 pub record Stands (connection : Connection) (wire : WireState) : Type 0 where
   pub is_open : IsOpen (door_of wire) (link_at wire) connection.state.c
+  pub unscripted : IsUnscripted (state_at wire connection.state.c)
   pub is_cut : IsCut connection
 
 -- an accepted connection: it is the first, stands unless it ended, and is closed once it did
@@ -34,10 +41,12 @@ pub record IsLinked (connection : Connection) (wire : WireState) : Type 0 where
   pub stands : connection.state.cause ≡ None → Stands connection wire
   pub closed : (state_at wire 0).closed ≡ is_some connection.state.cause
 
--- no connection was accepted yet, and none is closed
+-- no connection was accepted yet, none is closed, and nothing is scripted
 pub record IsUnlinked (wire : WireState) : Type 0 where
   pub none : wire.accepted ≡ 0
   pub open_still : (state_at wire 0).closed ≡ false
+  pub unscripted : IsUnscripted (state_at wire 0)
+  pub accepts : wire.accept_fails ≡ false
 
 -- no connection was accepted yet, or one was
 abbrev pub IsServed : Option Connection → WireState → Type 0

@@ -6,6 +6,7 @@ ghost use Rattle.fix_frame.specs.Cutting.{free};
 ghost use Rattle.gate_io.specs.MemWire.{door_of, link_at, state_at};
 ghost use Rattle.gate_io.specs.Wire.{IsOpen};
 ghost use Rattle.gateway_run.specs.Handling.{ConnectionState, new_connection, ended, with_text, share_written};
+ghost use Rattle.gateway_run.specs.Serving.{IsUnscripted};
 ghost use Rattle.gateway_run.specs.Turn.{input_in};
 
 use fix_frame::{Cutter, LONGEST_FRAME};
@@ -134,8 +135,10 @@ impl ConnState {
     pub fn write(&mut self, wire: &mut MemWire)
         requires open_still { IsOpen (door_of wire.old) (link_at wire.old) (self.old).c }
         requires room { MOST_WRITTEN ≤ (state_at wire.old (self.old).c).room }
+        requires unscripted { IsUnscripted (state_at wire.old (self.old).c) }
         ensures share { self.new ≡ share_written self.old }
         ensures is_open { IsOpen (door_of wire.new) (link_at wire.new) (self.old).c }
+        ensures unscripted { IsUnscripted (state_at wire.new (self.old).c) }
         ensures input { input_in (state_at wire.new (self.old).c) ≡ input_in (state_at wire.old (self.old).c) }
         ensures connections { length (wire.new).links ≡ length (wire.old).links }
         ensures accepted { (wire.new).accepted ≡ (wire.old).accepted }
@@ -185,9 +188,11 @@ struct WroteText {
 fn write_to(wire: &mut MemWire, c: u32, text: &[u8]) -> WroteText
     requires open_still { IsOpen (door_of wire.old) (link_at wire.old) c }
     requires room { length text.now ≤ (state_at wire.old c).room }
+    requires unscripted { IsUnscripted (state_at wire.old c) }
     ensures all { result.taken ≡ length text.now }
     ensures well { result.failed ≡ false }
     ensures is_open { IsOpen (door_of wire.new) (link_at wire.new) c }
+    ensures unscripted { IsUnscripted (state_at wire.new c) }
     ensures input { input_in (state_at wire.new c) ≡ input_in (state_at wire.old c) }
     ensures connections { length (wire.new).links ≡ length (wire.old).links }
     ensures accepted { (wire.new).accepted ≡ (wire.old).accepted }

@@ -11,7 +11,7 @@ ghost use Rattle.gateway_run.specs.Handling.{garbled_in, SessionState, Connectio
 ghost use Rattle.gateway_run.specs.Turn.{Input, input_in, input_of, input_behind, seen_in, seen_of, turn_of, accepted_from, input_after, connection_record, each, left_by};
 ghost use Rattle.fix_fields.specs.Reading.{fields_of};
 ghost use Rattle.gateway_run.specs.Session.{route};
-ghost use Rattle.gateway_run.specs.Serving.{IsCut, IsCutOn, Stands, IsServed, HasRoom, states_of};
+ghost use Rattle.gateway_run.specs.Serving.{IsCut, IsCutOn, IsUnscripted, Stands, IsServed, HasRoom, states_of};
 
 use crate::connections::{ConnState, Connection, MOST_WRITTEN};
 use crate::desk::Desk;
@@ -305,6 +305,7 @@ fn read_from(
     at: u64,
 ) -> Result<(), NoMemory>
     requires is_open { IsOpen (door_of wire.old) (link_at wire.old) (connection.old).state.c }
+    requires unscripted { IsUnscripted (state_at wire.old (connection.old).state.c) }
     requires is_cut { IsCut connection.old }
     requires stands { (connection.old).state.cause ≡ None }
     requires buffer { length buf.old ≡ 4096 }
@@ -312,6 +313,7 @@ fn read_from(
     ensures cut { OnOk result ((connection.new).state.cause ≡ None → IsCut connection.new) }
     ensures number { OnOk result ((connection.new).state.c ≡ (connection.old).state.c) }
     ensures is_open { OnOk result (IsOpen (door_of wire.new) (link_at wire.new) (connection.old).state.c) }
+    ensures unscripted { OnOk result (IsUnscripted (state_at wire.new (connection.old).state.c)) }
     ensures input { OnOk result (Some (input_in (state_at wire.new (connection.old).state.c)) ≡ input_behind (Some (input_in (state_at wire.old (connection.old).state.c)))) }
     ensures room { OnOk result ((state_at wire.new (connection.old).state.c).room ≡ (state_at wire.old (connection.old).state.c).room) }
     ensures connections { OnOk result (length (wire.new).links ≡ length (wire.old).links) }

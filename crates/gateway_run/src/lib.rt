@@ -14,8 +14,6 @@ mod replaying;
 mod run;
 mod session;
 mod statuses;
-#[cfg(test)]
-mod tests;
 mod wire_text;
 mod words;
 

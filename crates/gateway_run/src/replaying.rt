@@ -2,7 +2,7 @@
 
 ghost use Rattle.std.specs.Prelude.{◌≡◌, ◌⊎◌, ℕ, false, All, Err, length, IfOk, IfErr, IfSome, OnOk, map, string_bytes};
 ghost use Rattle.gate_io.specs.Counts.{HasRisen};
-ghost use Rattle.gate_io.specs.Source.{IsAllOf};
+ghost use Rattle.gate_io.specs.Source.{GaveWithin, IsAllOf};
 ghost use Rattle.gate_io.specs.Sink.{HasTaken, HasTakenPrefix};
 ghost use Rattle.script_text.specs.declared.kinds.ScriptKind.{ScriptKind};
 ghost use Rattle.script_text.specs.declared.steps.Script.{Script};
@@ -42,7 +42,10 @@ pub fn replay<So: Source, Si: Sink>(
     ensures reported { result.0 ≡ Status.Ok → HasTaken (Si.held out.old) (report_of result.1) (Si.held out.new) }
     ensures usage { result.0 ≡ Status.Usage → HasCommand (map string_bytes words.now) → ⊥ }
     ensures no_command { (HasCommand (map string_bytes words.now) → ⊥) → result.0 ≡ Status.Usage }
+    ensures usage_untouched { result.0 ≡ Status.Usage → script.new ≡ script.old }
     ensures read_fault { result.0 ≡ Status.ReadFault → HasRisen (So.faults script.old) (So.faults script.new) }
+    // No fault is told once the script is known to be too long.
+    ensures read_fault_within { result.0 ≡ Status.ReadFault → GaveWithin (So.left script.old) LONGEST_SCRIPT (So.left script.new) }
     ensures script_fault { (line : ℕ) (kind : ScriptKind) → result.0 ≡ Status.ScriptFault line kind
         → IfSome (So.left script.old) (λ text. script_of false text ≡ Err (ScriptError.Fault line kind)) }
     ensures unbuilt { (line : ℕ) → result.0 ≡ Status.Unbuilt line → IfSome (So.left script.old) (IsUnbuiltAt line) }
@@ -114,6 +117,8 @@ fn run_script<So: Source>(
     ensures sound { IfOk result (λ run. IsSound run.engine) }
     ensures command { OnOk result (HasCommand (map string_bytes words.now)) }
     ensures refused { IfErr result (Refuses (map string_bytes words.now) (So.left source.old) (So.faults source.old) (So.faults source.new)) }
+    ensures usage_untouched { IfErr result (λ status. status ≡ Status.Usage → source.new ≡ source.old) }
+    ensures read_fault_within { IfErr result (λ status. status ≡ Status.ReadFault → GaveWithin (So.left source.old) LONGEST_SCRIPT (So.left source.new)) }
 {
     let text = text_of(alloc, words, source)?;
     let script = script_in(alloc, text.as_slice())?;
@@ -129,6 +134,8 @@ fn text_of<So: Source>(alloc: Global, words: &[String], source: &mut So) -> Resu
     ensures all { IfOk result (λ text. IsAllOf (So.left source.old) text.items) }
     ensures command { OnOk result (HasCommand (map string_bytes words.now)) }
     ensures refused { IfErr result (Refuses (map string_bytes words.now) (So.left source.old) (So.faults source.old) (So.faults source.new)) }
+    ensures usage_untouched { IfErr result (λ status. status ≡ Status.Usage → source.new ≡ source.old) }
+    ensures read_fault_within { IfErr result (λ status. status ≡ Status.ReadFault → GaveWithin (So.left source.old) LONGEST_SCRIPT (So.left source.new)) }
 {
     match command_of(alloc, words) {
         Ok(_) => {}

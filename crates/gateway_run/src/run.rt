@@ -2,7 +2,7 @@
 
 ghost use Rattle.std.specs.Prelude.{◌≡◌, ◌<◌, ◌≤◌, None, Some, IfOk, OnOk, length};
 ghost use Rattle.fix_frame.specs.Frame.{IsBody, frame_of};
-ghost use Rattle.gate_io.specs.MemWire.{state_at, with_link, link_given};
+ghost use Rattle.gate_io.specs.MemWire.{IsMade, state_at, with_link, link_given};
 ghost use Rattle.gateway_run.specs.Meaning.{RunState, stepped};
 ghost use Rattle.gateway_run.specs.Runs.{IsRunning, MayStep, run_of};
 ghost use Rattle.gateway_run.specs.Turn.{left_by};
@@ -72,7 +72,7 @@ impl Run {
 
 /// The frame of a body can be read from a connection.
 fn give_frame(alloc: Global, wire: &mut MemWire, c: u32, body: &[u8]) -> Result<(), NoMemory>
-    requires there { c < length (wire.old).links }
+    requires there { IsMade wire.old c }
     requires is_body { IsBody body.now }
     requires short { length (frame_of body.now) ≤ 65536 }
     ensures { OnOk result (wire.new ≡ with_link wire.old c (link_given (state_at wire.old c) (frame_of body.now))) }

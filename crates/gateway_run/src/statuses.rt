@@ -1,5 +1,5 @@
-ghost use Rattle.std.specs.Prelude.{◌≡◌};
-ghost use Rattle.gateway_run.specs.Codes.{code_of};
+ghost use Rattle.std.specs.Prelude.{◌≡◌, Some};
+ghost use Rattle.gateway_run.specs.Codes.{code_of, line_of};
 
 use script_text::ScriptKind;
 use std::fmt;
@@ -43,6 +43,8 @@ impl Status {
 
 /// The line that the program prints to standard error, without its end. There is none for Ok.
 impl fmt::Display for Status {
+    ghost output = { λ status. Some (line_of status) };
+
     fn fmt<W: fmt::Write>(&self, f: &mut fmt::Formatter<W>) -> fmt::Result {
         match self {
             Status::Ok => Ok(()),
