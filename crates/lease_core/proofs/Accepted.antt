@@ -1,5 +1,5 @@
 -- The test whether an entry may stand next says just that.
-use Rattle.std.proofs.Common.{◌≡◌, ◌≢◌, ℕ, ◌+◌, ◌<◌, ◌≤◌, ◌&&◌, not, eqb, Bool, true, false, Option, Some, None, is_none, IsSome, refl, sym, ap, ◌∙◌, subst, arith}
+use Rattle.std.proofs.Common.{◌≡◌, ◌≢◌, ℕ, ◌+◌, not, eqb, Bool, true, false, Option, Some, None, is_none, refl, sym, ap, ◌∙◌, subst}
 use Rattle.std.proofs.lemmas.Bool.{eqb-true, eq-eqb, and_parts, and_from, ltb-true, lt-ltb, leb-true, le-leb, false≢true, false_from_ne_true}
 use Rattle.lease_core.specs.declared.entry.Entry.{Entry}
 use Rattle.lease_core.specs.declared.entry.Entry.TheVariants.{Arrive, Admin, Bind, Plan, Leave, Reset, Granted, Refused, Send, Release, Timeout, Hold, Lapse}
@@ -10,7 +10,7 @@ use Rattle.lease_core.specs.declared.event.Event.TheVariants.{Arrives, AdminSent
 use Rattle.lease_core.specs.declared.messages.Reply.{Reply}
 use Rattle.lease_core.specs.declared.messages.Reply.TheVariants.{Granted as ToGranted, Refused as ToRefused}
 use Rattle.lease_core.specs.State.{State, last_lease, owner_of, lease_of, series_of, sent_in_series}
-use Rattle.lease_core.specs.Steps.{step, request_entry, entry_with, reply_to, CanHappen, IsActive, IsLibrary, IsHeir, IsOpenTo, CanTake}
+use Rattle.lease_core.specs.Steps.{step, request_entry, entry_with, reply_to, CanHappen, IsActive, IsLibrary, IsOpenTo, CanTake}
 use Rattle.lease_core.specs.Runs.{IsStep, IsNext, FitsConnection, owes_hold, is_hold}
 use Rattle.lease_core.specs.Totals.{totals_of}
 use Rattle.lease_core.specs.Accepts.{is_library, is_open, is_reserved_as, has_lease_for, refuses, is_by_owner, is_step, is_bound_to, fits_connection, fits_hold, accepts}

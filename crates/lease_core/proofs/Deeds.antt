@@ -2,7 +2,6 @@
 use Rattle.std.proofs.Common.{◌≡◌, ℕ, zero, suc, ◌+◌, ◌<◌, Bool, true, false, cond, eqb, List, [], ◌∷◌, ◌++◌, length, map, filter, fold, refl, sym, ap, ◌∙◌, subst, append_assoc, arith}
 use Rattle.std.proofs.lemmas.List.{length-map, append-nil}
 use Rattle.std.proofs.lemmas.List.Elements.{filter-append}
-use Rattle.std.proofs.lemmas.Bool.{eqb-true}
 use Rattle.lease_core.specs.declared.entry.Entry.{Entry}
 use Rattle.lease_core.specs.declared.event.Event.{Event}
 use Rattle.lease_core.specs.declared.event.Event.TheVariants.{Requests, Sends, Releases, TimesOut}
@@ -13,10 +12,10 @@ use Rattle.lease_core.specs.declared.lease.Ending.TheVariants.{Running, GivenBac
 use Rattle.lease_core.specs.declared.lease.Line.{Line}
 use Rattle.lease_core.specs.declared.messages.Reply.{Reply}
 use Rattle.lease_core.specs.declared.messages.Reply.TheVariants.{Granted as ToGranted, Refused as ToRefused}
-use Rattle.lease_core.specs.State.{State, state_of, state_after, opening, with_last, last_or, leases_after, last_lease, lease_of, no_lease}
+use Rattle.lease_core.specs.State.{State, state_of, state_after, opening, with_last, last_or, last_lease, lease_of, no_lease}
 use Rattle.lease_core.specs.Steps.{step, entry_with, reply_to, CanHappen, IsActive, send_entry, release_entry, timeout_entry}
 use Rattle.lease_core.specs.Runs.{IsNext, IsRun, IsRunFrom}
-use Rattle.lease_core.specs.Lines.{line_of, lines_of, no_line, last_line, granted_line, line_with_send, line_with_ending, lines_after}
+use Rattle.lease_core.specs.Lines.{line_of, lines_of, no_line, granted_line, line_with_send, line_with_ending}
 use Rattle.lease_core.specs.Deeds.{deeds_in, deeds_of, sends_by, end_by, deeds_by, deeds_told, deeds_told_of, library_of, deeds_of_library}
 use Rattle.lease_core.proofs.Lasts.{last_or-map}
 use Rattle.lease_core.proofs.Lawful.{some_lease, owner_running}

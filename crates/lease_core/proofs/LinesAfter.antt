@@ -10,14 +10,14 @@ use Rattle.lease_core.specs.declared.lease.Line.{Line}
 use Rattle.lease_core.specs.declared.messages.Reply.{Reply}
 use Rattle.lease_core.specs.declared.messages.Reply.TheVariants.{Granted as ToGranted, Refused as ToRefused}
 use Rattle.lease_core.specs.declared.word.Word.{Word}
-use Rattle.lease_core.specs.State.{State, state_of, state_after, opening, leases_after, lease_with_send, lease_with_ending, no_lease, last_lease, last_or, owner_in, owner_of, lease_of}
+use Rattle.lease_core.specs.State.{State, state_of, state_after, opening, leases_after, lease_with_send, lease_with_ending, no_lease, last_lease, owner_in, owner_of, lease_of}
 use Rattle.lease_core.specs.Steps.{IsActive, entry_with}
 use Rattle.lease_core.specs.Runs.{IsNext, IsRun, IsRunFrom}
-use Rattle.lease_core.specs.Lines.{line_of, lines_of, no_line, last_line, line_with_send, line_with_ending, lines_after, lines_after_reply, missing_sends, news_count}
+use Rattle.lease_core.specs.Lines.{line_of, lines_of, last_line, line_with_send, line_with_ending, lines_after, lines_after_reply, missing_sends, news_count}
 use Rattle.lease_core.specs.Showable.{NamesOwner, IsShowable, owner_by, IsOwned}
 use Rattle.lease_core.specs.Kept.{IsCurrent}
 use Rattle.lease_core.proofs.Lasts.{map-with_last, last_or-map}
-use Rattle.lease_core.proofs.Pushed.{state_of-push, run_push, run_before}
+use Rattle.lease_core.proofs.Pushed.{state_of-push, run_before}
 
 pub lines_next : (leases : List Lease) (e : Entry) → map line_of (leases_after leases e) ≡ lines_after (map line_of leases) e
 lines_next leases (Granted library nr lease from start) = map-append line_of leases (record { library = library; from = from; start = start; sends = 0; ending = Running } ∷ [])

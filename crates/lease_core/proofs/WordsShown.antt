@@ -1,7 +1,6 @@
 -- What holds and ends do to lines, and which words lines show.
 use Rattle.std.proofs.Common.{◌≡◌, ℕ, ◌-◌, ◌<◌, ◌≤◌, inl, inr, true, false, cond, eqb, List, [], ◌∷◌, ◌++◌, length, map, Some, refl, sym, ap, ◌∙◌, subst, arith}
 use Rattle.std.specs.List.{slice_get}
-use Rattle.std.proofs.lemmas.List.{length-map}
 use Rattle.std.proofs.lemmas.Bool.{and_parts, eqb-true, ltb-true, leb-true, eq-eqb, false≢true}
 use Rattle.lease_core.specs.declared.entry.Entry.{Entry}
 use Rattle.lease_core.specs.declared.lease.Ending.{Ending}
@@ -11,12 +10,12 @@ use Rattle.lease_core.specs.declared.limits.TheConstants.{MOST_LIBRARIES}
 use Rattle.lease_core.specs.declared.word.Standing.{Standing}
 use Rattle.lease_core.specs.declared.word.Standing.TheVariants.{Active, Released, Revoked}
 use Rattle.lease_core.specs.declared.word.Word.{Word}
-use Rattle.lease_core.specs.State.{State, state_of, with_last, last_or, last_lease, lease_with_ending, no_lease, owner_in, lease_of}
+use Rattle.lease_core.specs.State.{State, state_of, with_last, last_or, lease_with_ending, no_lease, owner_in}
 use Rattle.lease_core.specs.Steps.{IsActive, hold_entry, timeout_entry}
-use Rattle.lease_core.specs.Runs.{owes_hold, IsRun}
-use Rattle.lease_core.specs.Lines.{line_of, lines_of, no_line, last_line, standing_of, shown_owner, word_by, word_of, FitsLine, IsShown, entries_after_hold, entries_after_timeout, entries_after_word, taken_back, taken_back_line, heir_named, ending_by, raised_line, raises, raised}
+use Rattle.lease_core.specs.Runs.{owes_hold}
+use Rattle.lease_core.specs.Lines.{line_of, lines_of, no_line, last_line, standing_of, shown_owner, word_of, FitsLine, IsShown, entries_after_hold, entries_after_timeout, entries_after_word, taken_back, taken_back_line, heir_named, ending_by, raised_line, raises, raised}
 use Rattle.lease_core.specs.Showable.{NamesOwner, IsShowable, IsOwned, CanTimeOut}
-use Rattle.lease_core.proofs.Lasts.{last_or-with_last, map-with_last, last_or-map}
+use Rattle.lease_core.proofs.Lasts.{last_or-with_last, map-with_last}
 use Rattle.lease_core.proofs.Pushed.{state_of-push}
 use Rattle.lease_core.proofs.Raised.{lines-extended}
 use Rattle.lease_core.proofs.Lawful.{owner_running}

@@ -1,5 +1,5 @@
 -- A registry as contracts see it: its entries, how many leases can be given, and for how many entries it has room.
-use Rattle.std.specs.Prelude.{◌≡◌, ℕ, ◌≤◌, ◌⊎◌, List}
+use Rattle.std.specs.Prelude.{◌≡◌, ℕ, ◌≤◌, List}
 use Rattle.lease_core.specs.declared.entry.Entry.{Entry}
 use Rattle.lease_core.specs.declared.entry.Holding.{Holding}
 use Rattle.lease_core.specs.declared.totals.Totals.{Totals}

@@ -1,25 +1,23 @@
 -- A table keeps its rule where seats are cut apart, joined, and meet.
-use Rattle.std.proofs.Common.{◌≡◌, ◌≢◌, ℕ, ◌<◌, List, [], ◌∷◌, ◌++◌, length, set, true, Option, None, refl, sym, ap, ◌∙◌, subst, ⊎_elim, arith}
+use Rattle.std.proofs.Common.{◌≡◌, ◌≢◌, ℕ, ◌<◌, List, [], ◌∷◌, ◌++◌, length, set, true, Option, refl, sym, ap, ◌∙◌, subst, ⊎_elim, arith}
 use mathlib.Core.Option.{none, some}
 use lib.ListN.{get_elem?}
 use lib.Seq.{set-get_or}
-use Rattle.atomic_table.specs.Table.{State, step, keeps, Allows, Splits, Joins, opening}
+use Rattle.atomic_table.specs.Table.{State, step, keeps, Allows, Splits, Joins}
 use Rattle.lease_words.specs.declared.item.Item.{Item}
 use Rattle.lease_words.specs.declared.view.Shape.{Shape}
 use Rattle.lease_words.specs.declared.view.EngineKnows.{EngineKnows}
 use Rattle.lease_words.specs.declared.view.LibraryKnows.{LibraryKnows}
 use Rattle.lease_words.specs.declared.view.View.{View}
-use Rattle.lease_words.specs.Layout.{word_count, slot_count}
 use Rattle.lease_words.specs.Leases.{Each}
-use Rattle.lease_words.specs.Views.{engine_view, library_view, new_engine, new_libraries, without_first, first_alone, with_first, nobody, first_library, other_libraries}
-use Rattle.lease_words.specs.Rule.{Truth, Ruled, IsShape, EngineKnowsSo, LibraryKnowsSo, AreApart, KnowsSo}
+use Rattle.lease_words.specs.Views.{engine_view, library_view, without_first, first_alone, with_first, nobody, first_library, other_libraries}
+use Rattle.lease_words.specs.Rule.{Truth, Ruled, EngineKnowsSo, LibraryKnowsSo, AreApart, KnowsSo}
 use Rattle.lease_words.specs.Tells.{MeetTells, engine_after_meeting, library_after_meeting}
 use Rattle.atomic_table.proofs.Lists.{at_set, set_else}
 use Rattle.lease_words.proofs.Told.{met, engine_met_so, library_met_so}
 use Rattle.lease_words.proofs.Places.{updated, updated_here, updated_else}
 use Rattle.lease_words.proofs.Lists.{at_end, each_two}
 use Rattle.lease_words.proofs.Seats.{off, each_map, views_set}
-use Rattle.std.specs.Prelude.{replicate}
 
 -- the libraries' seats change, and nothing else
 abbrev with_libraries : Truth → (ℕ → ℕ) → Truth

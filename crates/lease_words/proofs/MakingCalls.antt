@@ -26,7 +26,7 @@ use Rattle.lease_core.specs.Lines.{last_line}
 use Rattle.lease_words.specs.Views.{TableRef, EngineView, LibraryView, other_libraries, engine_session, no_engine_session, no_library_session, engine_view, library_view, last_library, shown_sends, pending, first_library, first_alone, lines_before, new_engine_session, new_engine_sessions, new_engine, new_library, new_libraries}
 use Rattle.lease_words.specs.Tokens.{engine_row, library_row, CountsFit, first_row, no_row, IsOutset, IsEngine, IsLibrary, new_library_seat, new_library_seats}
 use Rattle.lease_words.proofs.Lists.{each_at}
-use Rattle.lease_words.proofs.Opening.{AreBegun, begins, length-same, length-sessions, session_at_begin, engine_begins, total_none, taken_none}
+use Rattle.lease_words.proofs.Opening.{AreBegun, begins, length-same, length-sessions, session_at_begin, engine_begins, total_none}
 use Rattle.lease_words.proofs.Outsets.{same_lists}
 
 -- rows of sessions of which a library knows nothing

@@ -1,5 +1,5 @@
 -- What a table begins with: the rows and words of sessions so far, one more session, and the engine's rows of all.
-use Rattle.std.proofs.Common.{◌≡◌, ◌≢◌, ℕ, zero, suc, ◌+◌, ◌-◌, ◌<◌, ◌≤◌, List, [], ◌∷◌, ◌++◌, length, map, take, get_or, set, refl, sym, ap, ◌∙◌, subst, arith, length-set, append-nil, append_assoc}
+use Rattle.std.proofs.Common.{◌≡◌, ◌≢◌, ℕ, zero, suc, ◌+◌, ◌<◌, ◌≤◌, List, [], ◌∷◌, ◌++◌, length, map, take, get_or, set, refl, sym, ap, ◌∙◌, subst, arith, length-set, append-nil, append_assoc}
 use Rattle.std.specs.Prelude.{◌^◌, Option, replicate, option_to_list}
 use Rattle.lease_core.specs.Kept.{Kept}
 use Rattle.std.proofs.lemmas.List.{get_or-set_same, get_or-set_other, length_push}

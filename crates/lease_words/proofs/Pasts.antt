@@ -1,5 +1,5 @@
 -- The lines of a journal of which no lease is active are those that its entries end, one by one.
-use Rattle.std.proofs.Common.{◌≡◌, ◌≢◌, ◌⊎◌, ℕ, ◌+◌, ◌^◌, ◌<◌, ◌≤◌, Bool, true, false, cond, ltb, List, [], ◌∷◌, ◌++◌, length, map, fold, Option, Some, None, refl, sym, ap, ◌∙◌, subst, inl, inr, ⊎_elim, arith, append-nil, append_assoc}
+use Rattle.std.proofs.Common.{◌≡◌, ◌⊎◌, ℕ, ◌^◌, ◌<◌, ◌≤◌, Bool, true, false, cond, ltb, List, [], ◌∷◌, ◌++◌, length, map, fold, Option, Some, None, refl, sym, ap, ◌∙◌, subst, inl, inr, arith, append-nil, append_assoc}
 use Rattle.std.specs.Prelude.{option_to_list}
 use Rattle.std.specs.Option.{option_or}
 use Rattle.std.proofs.lemmas.Bool.{lt-ltb, cases_lt, false≢true}
@@ -17,7 +17,7 @@ use Rattle.lease_core.specs.Steps.{step, request_entry, why_owned, why_reserved,
 use Rattle.lease_core.specs.Runs.{IsRun, IsRunFrom, IsNext}
 use Rattle.lease_core.specs.Kept.{Kept}
 use Rattle.lease_core.specs.Lines.{no_line, word_of, line_of, lines_of}
-use Rattle.lease_words.specs.Leases.{Each, IsLineOf, FitsHeir, is_running, runs}
+use Rattle.lease_words.specs.Leases.{Each, FitsHeir, is_running, runs}
 use Rattle.lease_words.specs.Registries.{IsEndedLine, AreEnded, AreCounted, IsEndedJournal, kept_lines, ended_line, ended_lines}
 use Rattle.lease_words.proofs.Shows.{owner_within}
 use Rattle.lease_words.proofs.Lines.{running_of_push}

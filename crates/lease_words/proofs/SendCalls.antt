@@ -1,5 +1,5 @@
 -- A send's steps as its calls make them.
-use Rattle.std.proofs.Common.{◌≡◌, ◌≢◌, ℕ, zero, suc, ◌+◌, ◌<◌, List, [], ◌∷◌, length, get_or, eqb, Some, None, refl, sym, ap, ◌∙◌, subst, arith, eq-eqb, ne_eqb}
+use Rattle.std.proofs.Common.{◌≡◌, ◌≢◌, ℕ, ◌+◌, ◌<◌, [], ◌∷◌, length, eqb, Some, None, refl, sym, ap, ◌∙◌, subst, eq-eqb, ne_eqb}
 use Rattle.std.proofs.lemmas.Bool.Decides.{when_true, when_false}
 use Rattle.std.proofs.lemmas.List.{get_or-set_same}
 use mathlib.Core.Option.{none}
@@ -11,7 +11,6 @@ use Rattle.lease_words.specs.declared.view.Shape.{Shape}
 use Rattle.lease_words.specs.declared.view.LibrarySession.{LibrarySession}
 use Rattle.lease_words.specs.declared.view.LibraryKnows.{LibraryKnows}
 use Rattle.lease_words.specs.Layout.{session_at, lease_word, taken_word, slot_of}
-use Rattle.lease_words.specs.Leases.{held_lease}
 use Rattle.lease_words.specs.Views.{library_view, first_library, library_session, with_library_session, no_library_session}
 use Rattle.lease_words.specs.Sees.{after_loss, with_sending}
 use Rattle.lease_words.specs.Rule.{Ruled}

@@ -1,6 +1,5 @@
 -- The word that a look or a revoke finds can be shown to a registry whose lines are the seat's.
-use Rattle.std.proofs.Common.{◌≡◌, ◌≢◌, ℕ, suc, ◌-◌, ◌<◌, ◌≤◌, List, [], ◌∷◌, length, ◌++◌, true, false, eqb, cond, refl, sym, ap, ◌∙◌, subst, arith}
-use Rattle.std.proofs.lemmas.Bool.{cases_eq}
+use Rattle.std.proofs.Common.{◌≡◌, ℕ, ◌-◌, ◌<◌, ◌≤◌, List, [], ◌∷◌, length, true, false, eqb, cond, refl, ap, ◌∙◌, subst, arith}
 use Rattle.lease_core.specs.declared.lease.Ending.{Ending}
 use Rattle.lease_core.specs.declared.lease.Ending.TheVariants.{Running, GivenBack, TakenBack}
 use Rattle.lease_core.specs.declared.lease.Line.{Line}
@@ -14,8 +13,7 @@ use Rattle.lease_words.specs.declared.view.LibraryKnows.{LibraryKnows}
 use Rattle.lease_words.specs.Leases.{AreLines, IsLineOf, FitsHeir, is_running, runs}
 use Rattle.lease_core.specs.Lines.{last_line}
 use Rattle.lease_core.specs.Showable.{IsShowable, IsOwned, CanTimeOut}
-use Rattle.lease_words.specs.Sees.{after_look}
-use Rattle.lease_words.specs.Tells.{EngineNumbers, engine_numbers, HasLooked, HasRevoked}
+use Rattle.lease_words.specs.Tells.{EngineNumbers, HasLooked, HasRevoked}
 use Rattle.lease_words.proofs.Lines.{running_last, as_front, with_last_of_push, running_of_push}
 use Rattle.lease_words.proofs.Lanes.{place_of_last}
 

@@ -42,7 +42,7 @@ impl Deadlines {
 
     /// Sets a session's deadline, or takes it away. Taking it away needs no memory, nor does setting
     /// the one that stands.
-    pub fn set(&mut self, s: u16, at: Option<u64>) -> Result<(), NoMemory>
+    pub fn set(&mut self, _alloc: Global, s: u16, at: Option<u64>) -> Result<(), NoMemory>
         requires { s < length self.old }
         ensures ok { OnOk result (self.new ≡ slice_set self.old s at) }
         ensures err { OnErr result (self.new ≡ self.old) }

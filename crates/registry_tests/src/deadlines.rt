@@ -26,10 +26,10 @@ impl Both {
         })
     }
 
-    fn set(&mut self, s: u16, at: Option<u64>) -> Result<(), NoMemory>
+    fn set(&mut self, alloc: Global, s: u16, at: Option<u64>) -> Result<(), NoMemory>
         requires { s < 64 }
     {
-        self.fast.set(s, at)?;
+        self.fast.set(alloc, s, at)?;
         put(&mut self.plain, usize::from(s), at);
         Ok(())
     }
@@ -71,7 +71,7 @@ fn generated_deadlines_come_alike(rt: HostRuntime) -> Result<(), Fail> {
         for _ in 0..60 {
             let s = draw.below(64) as u16;
             let at = draw_deadline(&mut draw, moment);
-            both.set(s, at)?;
+            both.set(rt.alloc(), s, at)?;
             if draw.below(4) == 0 {
                 moment = moment.saturating_add(u64::from(draw.below(8)));
                 both.ask(&rt, moment);
@@ -134,7 +134,7 @@ fn deadlines_worked_by_hand(rt: HostRuntime) -> Result<(), Fail> {
         match row {
             Row::Set(s, at) => {
                 assert!(rt; s < 8);
-                deadlines.set(s, at)?;
+                deadlines.set(rt.alloc(), s, at)?;
             }
             Row::Due(moment, want) => {
                 assert_eq!(rt; deadlines.due(moment), want, "at {moment}");

@@ -1,14 +1,12 @@
 -- The laws of the number line.
-use Rattle.std.proofs.Common.{◌≡◌, ℕ, ◌+◌, ◌<◌, ◌≤◌, ◌⊎◌, Bool, true, false, cond, eqb, Option, Some, None, is_some, IsNone, max, nat_le, refl, sym, ap, ◌∙◌, subst, inl, inr, arith}
+use Rattle.std.proofs.Common.{◌≡◌, ℕ, ◌+◌, ◌<◌, ◌≤◌, ◌⊎◌, Bool, true, false, cond, Option, Some, None, is_some, IsNone, nat_le, refl, sym, ap, ◌∙◌, subst, inl, inr, arith}
 use Rattle.std.specs.Ordering.{nat_cmp, eq_by_cmp}
 use Rattle.std.specs.Cmp.{unsigned_tied}
 use Rattle.std.proofs.lemmas.Cmp.{nat_cmp_total}
-use Rattle.std.proofs.lemmas.Bool.{eqb-true, ne_eqb, cases_eq, cases_lt, false≢true}
+use Rattle.std.proofs.lemmas.Bool.{ne_eqb}
 use Rattle.std.specs.FinMap.{FinMap, get, insert, remove, len, contains_key, get-empty, get-insert, get-remove, get-retain_keys, len-empty, len-insert, nat_cmp-IsAntisymmetric}
-use Rattle.seq_gaps.specs.declared.offered.TheConstants.{MAX_NUMBER, HELD_LIMIT}
-use Rattle.seq_gaps.specs.declared.offered.Place.{Place}
-use Rattle.seq_gaps.specs.declared.offered.Place.TheVariants.{Now, Held, Known, NoRoom}
-use Rattle.seq_gaps.specs.Line.{Line, IsLine, IsNumber, IsNotHeld, fresh_line, after_fill, after_taking, after_clear}
+use Rattle.seq_gaps.specs.declared.offered.Place.TheVariants.{Now}
+use Rattle.seq_gaps.specs.Line.{Line, IsLine, IsNumber, IsNotHeld, after_taking}
 use Rattle.seq_gaps.specs.Offers.{place_of, after_placing, after_offer, more_held}
 use Rattle.seq_gaps.specs.Laws.{LinesStayLines, HeldItems, HeldCounts, ExpectedNumbers}
 use Rattle.seq_gaps.proofs.Lines.{line_opening, line_counted, line_held, line_filled, line_taken, line_cleared}

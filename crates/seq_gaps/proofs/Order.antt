@@ -1,19 +1,17 @@
 -- The law for whole lists of calls: offers and takings hand on the first offers in order.
-use Rattle.std.proofs.Common.{◌≡◌, ℕ, zero, suc, ◌+◌, ◌<◌, ◌≤◌, true, false, cond, eqb, ltb, List, [], ◌∷◌, ◌++◌, take, drop, Option, Some, None, is_some, IsNone, refl, sym, ap, ◌∙◌, subst, inl, inr, arith}
+use Rattle.std.proofs.Common.{◌≡◌, ℕ, zero, suc, ◌+◌, ◌<◌, ◌≤◌, true, cond, eqb, List, [], ◌∷◌, ◌++◌, take, drop, Option, Some, None, is_some, IsNone, refl, sym, ap, ◌∙◌, subst, inl, inr, arith}
 use Rattle.std.specs.Ordering.{nat_cmp}
 use Rattle.std.specs.Option.{option_to_list}
 use Rattle.std.specs.Cmp.{unsigned_tied}
 use Rattle.std.proofs.lemmas.Cmp.{nat_cmp_total}
-use Rattle.std.proofs.lemmas.Bool.{eq-eqb, ne_eqb, cases_eq, cases_lt, false≢true}
-use Rattle.std.specs.FinMap.{FinMap, get, insert, remove, len, get-empty, get-insert, get-remove}
-use Rattle.seq_gaps.specs.declared.offered.TheConstants.{HELD_LIMIT}
-use Rattle.seq_gaps.specs.declared.offered.Place.{Place}
-use Rattle.seq_gaps.specs.declared.offered.Place.TheVariants.{Now, Held, Known, NoRoom}
+use Rattle.std.proofs.lemmas.Bool.{eq-eqb, ne_eqb, cases_eq, false≢true}
+use Rattle.std.specs.FinMap.{FinMap, get, insert, remove, get-empty, get-insert, get-remove}
+use Rattle.seq_gaps.specs.declared.offered.Place.TheVariants.{Held}
 use Rattle.seq_gaps.specs.declared.calls.Call.{Call}
 use Rattle.seq_gaps.specs.declared.calls.Call.TheVariants.{Offer, Fill, TakeReady, Clear, Restart}
 use Rattle.seq_gaps.specs.declared.calls.Answer.{Answer}
 use Rattle.seq_gaps.specs.Line.{Line}
-use Rattle.seq_gaps.specs.Offers.{place_of, after_placing}
+use Rattle.seq_gaps.specs.Offers.{after_placing}
 use Rattle.seq_gaps.specs.Calls.{line_after, line_after_all, answers_to, first_offered, AreFirstOffers, OnlyOfferOrTake, HasRoom, AllHaveRoom, item_now, items_handed_on, IsPlainRun}
 use Rattle.seq_gaps.proofs.Places.{offer_cases}
 

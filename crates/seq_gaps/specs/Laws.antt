@@ -2,8 +2,7 @@
 use Rattle.std.specs.Prelude.{◌≡◌, ℕ, ◌+◌, ◌<◌, ◌≤◌, ◌⊎◌, None, Some}
 use Rattle.std.specs.FinMap.{get, len}
 use Rattle.seq_gaps.specs.declared.offered.TheConstants.{MAX_NUMBER}
-use Rattle.seq_gaps.specs.declared.offered.Place.{Place}
-use Rattle.seq_gaps.specs.declared.offered.Place.TheVariants.{Now, Held, Known, NoRoom}
+use Rattle.seq_gaps.specs.declared.offered.Place.TheVariants.{Now}
 use Rattle.seq_gaps.specs.Line.{Line, IsLine, IsNumber, IsHeld, IsNotHeld, fresh_line, after_fill, after_taking, after_clear}
 use Rattle.seq_gaps.specs.Offers.{place_of, after_offer, more_held}
 

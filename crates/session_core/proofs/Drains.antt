@@ -1,5 +1,5 @@
 -- How a run over the held messages goes on by one.
-use Rattle.std.proofs.Common.{◌≡◌, ℕ, zero, suc, ◌+◌, ◌-◌, List, ap, sym, ◌∙◌, refl, arith, if◌then◌else◌}
+use Rattle.std.proofs.Common.{◌≡◌, ℕ, zero, suc, ◌+◌, List, ap, sym, ◌∙◌, refl, arith, if◌then◌else◌}
 use Rattle.std.specs.Prelude.{Option, None, Some, is_some}
 use Rattle.std.specs.FinMap.{get, remove}
 use Rattle.seq_gaps.specs.Line.{Line, after_taking}

@@ -1,29 +1,27 @@
 -- On a bound session the expected number never falls.
-use Rattle.std.proofs.Common.{◌≡◌, ℕ, zero, suc, ◌+◌, ◌≤◌, Bool, true, false, List, [], ap, sym, subst, refl, arith, if◌then◌else◌}
+use Rattle.std.proofs.Common.{◌≡◌, ℕ, zero, suc, ◌+◌, ◌≤◌, Bool, true, false, List, [], sym, subst, refl, arith, if◌then◌else◌}
 use Rattle.std.specs.Prelude.{Option, None, Some, nat_le, ◌&&◌, is_some}
 use Rattle.std.specs.FinMap.{get, remove}
 use Rattle.std.specs.List.{list_any}
 use Rattle.std.specs.Option.{option_to_list}
 use Rattle.std.specs.Result.{result_ok}
 use Rattle.std.proofs.lemmas.Bool.Decides.{nat_tests}
-use Rattle.fix_fields.specs.Field.{Field}
 use Rattle.fix_fields.specs.Reading.{fields_of}
 use Rattle.seq_gaps.specs.declared.offered.Offered.{Offered}
 use Rattle.seq_gaps.specs.declared.offered.Place.{Place}
 use Rattle.seq_gaps.specs.declared.offered.Place.TheVariants.{Now, Held, Known, NoRoom}
 use Rattle.seq_gaps.specs.declared.offered.TheConstants.{HELD_LIMIT, MAX_NUMBER}
-use Rattle.seq_gaps.specs.Line.{Line, after_fill, after_taking}
+use Rattle.seq_gaps.specs.Line.{Line, after_fill}
 use Rattle.seq_gaps.specs.Offers.{answer_to_offer, after_offer, place_of, after_placing}
-use Rattle.session_core.specs.declared.acts.Act.{Act}
 use Rattle.session_core.specs.declared.acts.Act.TheVariants.{Accept}
 use Rattle.session_core.specs.declared.phases.Phase.{Phase}
-use Rattle.session_core.specs.declared.phases.Phase.TheVariants.{Off, On}
+use Rattle.session_core.specs.declared.phases.Phase.TheVariants.{On}
 use Rattle.session_core.specs.declared.steps.Step.{Step}
 use Rattle.session_core.specs.declared.steps.Step.TheVariants.{Ignore, Refuse, Close, Move, Deliver, Handle}
 use Rattle.session_core.specs.declared.tasks.Task.{Task}
 use Rattle.session_core.specs.declared.tasks.Task.TheVariants.{Nothing, Do, Fill}
 use Rattle.session_core.specs.Carry.{Progress, after_carrying, after_ready, while_ready, after_draining, after_fill_to, on_place, after_handling, after_step}
-use Rattle.session_core.specs.Receive.{Outcome, outcome_of_step, step_in, outcome_in, outcome, after_outcome, is_send, after_receive}
+use Rattle.session_core.specs.Receive.{Outcome, outcome_of_step, step_in, outcome_in, outcome, after_outcome, is_send}
 use Rattle.session_core.specs.Laws.{NumbersGoForward}
 use Rattle.session_core.specs.State.{State}
 

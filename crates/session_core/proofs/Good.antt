@@ -1,14 +1,14 @@
 -- What holds of a line with its tasks, and of the acts so far, is kept as messages are carried out.
-use Rattle.std.proofs.Common.{◌≡◌, ℕ, zero, suc, ◌+◌, ◌≤◌, ◌⊎◌, Bool, true, false, List, [], ◌∷◌, ◌++◌, ap, sym, ◌∙◌, subst, refl, inl, inr, arith, if◌then◌else◌}
-use Rattle.std.specs.Prelude.{Option, None, Some, IsNone, nat_le, ◌&&◌}
-use Rattle.std.specs.FinMap.{get, len}
+use Rattle.std.proofs.Common.{◌≡◌, ℕ, zero, suc, ◌+◌, ◌≤◌, true, false, List, [], ◌∷◌, ◌++◌, ap, sym, subst, refl, inl, inr, arith, if◌then◌else◌}
+use Rattle.std.specs.Prelude.{Option, None, Some, nat_le, ◌&&◌}
+use Rattle.std.specs.FinMap.{get}
 use Rattle.std.proofs.lemmas.Bool.Decides.{nat_tests}
 use Rattle.seq_gaps.specs.declared.offered.Gap.{Gap}
 use Rattle.seq_gaps.specs.declared.offered.Offered.{Offered}
 use Rattle.seq_gaps.specs.declared.offered.Place.{Place}
 use Rattle.seq_gaps.specs.declared.offered.Place.TheVariants.{Now, Held, Known, NoRoom}
 use Rattle.seq_gaps.specs.declared.offered.TheConstants.{HELD_LIMIT, MAX_NUMBER}
-use Rattle.seq_gaps.specs.Line.{Line, IsLine, IsNumber, IsNotHeld, after_fill, after_clear}
+use Rattle.seq_gaps.specs.Line.{Line, IsLine, IsNumber, IsNotHeld, after_fill}
 use Rattle.seq_gaps.specs.Offers.{answer_to_offer, after_offer, after_placing, gap_shown, place_of}
 use Rattle.session_core.specs.declared.acts.Act.{Act}
 use Rattle.session_core.specs.declared.acts.Act.TheVariants.{Send}

@@ -5,7 +5,6 @@ use Rattle.std.specs.Ordering.{nat_cmp}
 use Rattle.std.specs.FinMap.{get, len, empty_of_len, get-empty}
 use Rattle.seq_gaps.specs.declared.offered.TheConstants.{HELD_LIMIT, MAX_NUMBER}
 use Rattle.seq_gaps.specs.Line.{Line, after_fill}
-use Rattle.session_core.specs.declared.acts.Act.{Act}
 use Rattle.session_core.specs.declared.tasks.Task.{Task}
 use Rattle.session_core.specs.declared.tasks.Task.TheVariants.{Nothing, Do, Fill}
 use Rattle.session_core.specs.Carry.{Progress, after_carrying, after_ready, after_fill_to, after_draining}

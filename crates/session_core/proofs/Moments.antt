@@ -6,11 +6,11 @@ use Rattle.fix_fields.specs.Field.{Field}
 use Rattle.fix_fields.specs.Reading.{fields_of}
 use Rattle.seq_gaps.specs.Line.{Line, after_clear}
 use Rattle.session_core.specs.declared.tasks.Task.{Task}
-use Rattle.session_core.specs.Receive.{Outcome, outcome_unread, outcome_of_terms, terms_for, outcome_of_step, step_in, outcome_asked, outcome_in, outcome, receive, after_receive, after_outcome}
+use Rattle.session_core.specs.Receive.{Outcome, outcome_of_terms, terms_for, outcome_of_step, step_in, outcome_asked, outcome_in, outcome, receive, after_receive, after_outcome}
 use Rattle.session_core.specs.Ask.{after_ask, after_logon}
 use Rattle.session_core.specs.Laws.{SamenessLaws, MomentsDontMatter, RunsFollowBodies}
 use Rattle.session_core.specs.Route.{answer_in}
-use Rattle.session_core.specs.Runs.{SameButMoments, Event, comes, ticks, queues, after_event, after_events, message_acts, acts_in, body_of, bodies_in, acts_on, behind, behind_all}
+use Rattle.session_core.specs.Runs.{SameButMoments, comes, ticks, queues, acts_in, behind}
 use Rattle.session_core.specs.State.{State, after_leave}
 use Rattle.session_core.specs.Tick.{tick_of, behind_tick, after_tick}
 use Rattle.session_core.specs.declared.phases.Phase.{Phase}
@@ -19,7 +19,6 @@ use Rattle.session_core.specs.declared.routing.Terms.{Terms}
 use Rattle.session_core.specs.declared.steps.Step.{Step}
 use Rattle.session_core.specs.declared.ticks.Tick.{Tick}
 use Rattle.session_core.specs.declared.ticks.Tick.TheVariants.{Quiet, Beat, Test, Expire}
-use Rattle.session_core.specs.declared.acts.Act.{Act}
 use Rattle.session_core.specs.declared.causes.Cause.{Cause}
 
 terms_same : (s t : State) (terms : Option Terms) → SameButMoments s t → outcome_of_terms s terms ≡ outcome_of_terms t terms

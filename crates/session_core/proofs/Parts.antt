@@ -2,12 +2,10 @@
 use Rattle.std.proofs.Common.{◌≡◌, ℕ, ◌⊎◌, List, [], ◌∷◌, ◌++◌, ap, sym, ◌∙◌, subst, refl, inl, inr}
 use Rattle.std.specs.Prelude.{Option, None, Some, IsNone, IsSome}
 use Rattle.std.proofs.lemmas.List.{append_assoc}
-use Rattle.session_core.specs.Ask.{ask, after_ask}
 use Rattle.session_core.specs.Laws.{RunsInParts, HandledInParts}
 use Rattle.session_core.specs.Receive.{receive}
 use Rattle.session_core.specs.Runs.{behind, behind_all, acts_on, acts_of, connection_acts, after_connection, after_connections, unless_ended, until_end, NoneEnds, LastEnds}
 use Rattle.session_core.specs.State.{State}
-use Rattle.session_core.specs.declared.acts.Act.{Act}
 use Rattle.session_core.specs.declared.causes.Cause.{Cause}
 
 behind_parts : (first second : List (List ℕ)) (state : State) → behind_all state (first ++ second) ≡ behind_all (behind_all state first) second

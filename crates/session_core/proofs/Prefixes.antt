@@ -2,10 +2,9 @@
 use Rattle.std.proofs.Common.{◌≡◌, ℕ, Bool, true, false, List, [], ◌∷◌, ◌++◌, ap, refl, if◌then◌else◌}
 use Rattle.std.specs.Prelude.{Option, None, Some, not, is_some, ◌||◌}
 use Rattle.session_core.specs.declared.causes.Cause.{Cause}
-use Rattle.session_core.specs.declared.names.Names.{Names}
 use Rattle.session_core.specs.Receive.{receive}
 use Rattle.session_core.specs.Laws.{HandlesWhatCameFirst}
-use Rattle.session_core.specs.Runs.{behind, binds, unless_ended, until_end, handled_bodies}
+use Rattle.session_core.specs.Runs.{behind, binds, unless_ended, until_end}
 use Rattle.session_core.specs.State.{State}
 
 onward : (body : List ℕ) (ended : Option Cause) (some all : List (List ℕ)) → (rest : List (List ℕ)) × (some ++ rest ≡ all) → (rest : List (List ℕ)) × ((body ∷ unless_ended ended some) ++ rest ≡ body ∷ all)

@@ -1,11 +1,10 @@
 -- What holds of every session holds at first, and behind each call.
 use Rattle.std.proofs.Common.{◌≡◌, ℕ, ◌+◌, ◌≤◌, Bool, true, false, List, [], ◌∷◌, ◌++◌, ap, sym, ◌∙◌, subst, refl, arith, if◌then◌else◌}
-use Rattle.std.specs.Prelude.{Option, None, Some, IfSome, IsNone, Result, Ok, Err, codes, nat_le, nat_lt, ◌==◌, not, ◌||◌, drop, unwrap_or}
+use Rattle.std.specs.Prelude.{Option, None, Some, IfSome, IsNone, Result, Ok, Err, codes, nat_lt, ◌==◌, not, ◌||◌, drop}
 use Rattle.std.specs.FinMap.{get, empty_of_len}
 use Rattle.std.specs.List.{All, list_any}
 use Rattle.std.specs.Option.{option_to_list}
 use Rattle.std.specs.Result.{result_ok}
-use Rattle.std.proofs.lemmas.Bool.Decides.{nat_tests}
 use Rattle.std.proofs.lemmas.List.Elements.{All-append, All-drop, All-from_recursion, All-head, All-nil, All-tail}
 use Rattle.fix_fields.specs.Field.{Field}
 use Rattle.fix_fields.specs.Reading.{fields_of, first_value}
@@ -13,13 +12,12 @@ use Rattle.gate_io.specs.declared.clocks.TheConstants.{LAST_MOMENT}
 use Rattle.seq_gaps.specs.declared.offered.TheConstants.{HELD_LIMIT, MAX_NUMBER}
 use Rattle.seq_gaps.specs.Line.{Line, IsLine, IsNumber, IsNotHeld, fresh_line, after_fill, after_clear}
 use Rattle.session_core.specs.Ask.{after_ask, after_logon}
-use Rattle.session_core.specs.Carry.{Progress, after_fill_to, after_draining, after_handling, after_step, closing_acts, end_of}
+use Rattle.session_core.specs.Carry.{Progress, after_fill_to, after_handling, after_step, closing_acts}
 use Rattle.session_core.specs.Laws.{AreActs, StatesStayLawful, ActsOfMessages, OnlyLogonsReset}
 use Rattle.session_core.specs.Lines.{LineLaws}
-use Rattle.session_core.specs.Receive.{Outcome, outcome, outcome_in, outcome_unread, outcome_of_terms, outcome_of_logon, outcome_of_low, outcome_of_welcome, outcome_of_step, outcome_asked, outcome_of_answer, outcome_of_low_answer, outcome_of_good_answer, expected_at, line_at, greeting, terms_in, terms_for, step_in, after_outcome, receive, after_receive, is_send}
-use Rattle.session_core.specs.Replies.{low_text}
+use Rattle.session_core.specs.Receive.{Outcome, outcome, outcome_in, outcome_unread, outcome_of_terms, outcome_of_logon, outcome_of_low, outcome_of_welcome, outcome_of_step, outcome_asked, outcome_of_answer, expected_at, line_at, greeting, terms_in, terms_for, step_in, after_outcome, after_receive, is_send}
 use Rattle.session_core.specs.Route.{demand, demand_some, asks_reset, has_lawful_reset, has_no_reset, has_heart, terms_of, AreTerms, answer_of, answer_in}
-use Rattle.session_core.specs.Said.{has_value, heart_of, seq_num_of, number_between}
+use Rattle.session_core.specs.Said.{has_value, heart_of, seq_num_of}
 use Rattle.session_core.specs.State.{State, IsState, HoldsNothing, RestsIn, HoldsTasks, IsDialHeart, heart_in, new_state, after_leave}
 use Rattle.session_core.specs.Steps.{step_of}
 use Rattle.session_core.specs.Tasks.{IsReply, IsTask, SendsShortTexts, is_tick_act, is_reset_act}
@@ -41,7 +39,7 @@ use Rattle.session_core.specs.declared.tasks.Task.{Task}
 use Rattle.session_core.specs.declared.tasks.Task.TheVariants.{Nothing, Do}
 use Rattle.session_core.specs.declared.ticks.Tick.{Tick}
 use Rattle.session_core.specs.declared.ticks.Tick.TheVariants.{Quiet, Beat, Test, Expire}
-use Rattle.session_core.proofs.Good.{IsGood, Grows, NoneReady, fill_cases, line_filled_to, tasks_filled_to, good-drained, good-handled, free-drained, free-handled}
+use Rattle.session_core.proofs.Good.{IsGood, Grows, NoneReady, line_filled_to, tasks_filled_to, good-drained, good-handled, free-drained, free-handled}
 use Rattle.session_core.proofs.StepFacts.{IsStep, step_is, seq_num, between, low_logout_is}
 
 -- lists of acts

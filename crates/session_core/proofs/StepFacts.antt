@@ -1,6 +1,6 @@
 -- What the rules give: replies with short texts, and tasks.
-use Rattle.std.proofs.Common.{◌≡◌, ℕ, ◌+◌, ◌≤◌, Bool, true, false, List, [], ◌++◌, length, ap, sym, ◌∙◌, subst, refl, arith, if◌then◌else◌}
-use Rattle.std.specs.Prelude.{Option, None, Some, IfSome, Result, Ok, Err, codes, decimal, nat_le, nat_lt, ◌==◌, not, ◌&&◌, is_none, IsTrue}
+use Rattle.std.proofs.Common.{◌≡◌, ℕ, ◌+◌, ◌≤◌, Bool, true, false, List, length, refl, arith, if◌then◌else◌}
+use Rattle.std.specs.Prelude.{Option, None, Some, IfSome, Result, Ok, Err, codes, nat_le, nat_lt, ◌&&◌, is_none}
 use Rattle.std.specs.Option.{option_map_or}
 use Rattle.std.proofs.lemmas.Bool.Decides.{nat_tests}
 use Rattle.std.proofs.lemmas.Fmt.{length-decimal-le}
@@ -10,16 +10,13 @@ use Rattle.fix_fields.specs.Number.{number_of}
 use Rattle.fix_fields.specs.Reading.{first_value}
 use Rattle.seq_gaps.specs.declared.offered.TheConstants.{MAX_NUMBER}
 use Rattle.seq_gaps.specs.Line.{IsNumber}
-use Rattle.session_core.specs.declared.acts.Act.{Act}
-use Rattle.session_core.specs.declared.acts.Act.TheVariants.{Send, Resend}
+use Rattle.session_core.specs.declared.acts.Act.TheVariants.{Send}
 use Rattle.session_core.specs.declared.acts.Admin.{Admin}
-use Rattle.session_core.specs.declared.acts.Admin.TheVariants.{Heartbeat, Logout, Reject}
+use Rattle.session_core.specs.declared.acts.Admin.TheVariants.{Heartbeat, Logout}
 use Rattle.session_core.specs.declared.names.Names.{Names}
 use Rattle.session_core.specs.declared.replies.TheConstants.{LONGEST_TEST, LONGEST_LOGOUT_TEXT}
 use Rattle.session_core.specs.declared.steps.Step.{Step}
 use Rattle.session_core.specs.declared.steps.Step.TheVariants.{Ignore, Refuse, Close, Move, Deliver, Handle}
-use Rattle.session_core.specs.declared.tasks.Task.{Task}
-use Rattle.session_core.specs.declared.tasks.Task.TheVariants.{Nothing, Do, Fill}
 use Rattle.session_core.specs.Replies.{reject_for, test_answer, test_answer_of, number_in, range_answer, resend_answer, from_least, new_number, gap_fill, fill_or_reject, low_text, no_number_text}
 use Rattle.session_core.specs.Said.{has_value, seq_num_of, new_seq_no_of, number_between}
 use Rattle.session_core.specs.Steps.{no_number, wrong_name, wrong_comp_id, is_reset, move_or_refuse, reset, low, asks_nothing, in_order, early, on_time, by_number, by_name, by_seq_num, step_of}

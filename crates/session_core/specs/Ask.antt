@@ -1,5 +1,5 @@
 -- A connection that the session itself dialled begins with its Logon (FIX 4.4, volume 2, "Logon").
-use Rattle.std.specs.Prelude.{ℕ, false, List, [], ◌∷◌, Option, None, Some}
+use Rattle.std.specs.Prelude.{ℕ, false, [], ◌∷◌, Option, None, Some}
 use Rattle.session_core.specs.Receive.{no_effects}
 use Rattle.session_core.specs.State.{State}
 use Rattle.session_core.specs.declared.acts.Act.TheVariants.{Send}

@@ -1,5 +1,5 @@
 -- Laws of the definitions, each proved as the clause of a function of `laws`.
-use Rattle.std.specs.Prelude.{◌≡◌, ℕ, ◌+◌, ◌≤◌, ◌⊎◌, false, IsNone, IfSome, List, [], ◌∷◌, ◌++◌, drop, Option, None, Some}
+use Rattle.std.specs.Prelude.{◌≡◌, ℕ, ◌+◌, ◌≤◌, ◌⊎◌, false, IsNone, IfSome, List, ◌++◌, drop, Option, Some}
 use Rattle.std.specs.FinMap.{get, len}
 use Rattle.std.specs.List.{All}
 use Rattle.gate_io.specs.declared.clocks.TheConstants.{LAST_MOMENT}

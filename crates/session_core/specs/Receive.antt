@@ -5,7 +5,7 @@ use Rattle.std.specs.Result.{result_ok}
 use Rattle.fix_fields.specs.Field.{Field}
 use Rattle.fix_fields.specs.Reading.{fields_of}
 use Rattle.seq_gaps.specs.Line.{Line, fresh_line}
-use Rattle.session_core.specs.Carry.{Progress, after_handling, after_step, end_of}
+use Rattle.session_core.specs.Carry.{after_handling, after_step, end_of}
 use Rattle.session_core.specs.Replies.{low_text}
 use Rattle.session_core.specs.Route.{terms_of, answer_in}
 use Rattle.session_core.specs.State.{State}

@@ -1,5 +1,5 @@
 -- The first message of an unbound connection (FIX 4.4, volume 2, "Logon").
-use Rattle.std.specs.Prelude.{ℕ, ◌≤◌, ◌==◌, Bool, true, false, not, ◌||◌, List, codes, Option, None, Some, Result, Ok, Err, is_none, if◌then◌else◌, position}
+use Rattle.std.specs.Prelude.{ℕ, ◌≤◌, ◌==◌, Bool, false, not, ◌||◌, List, codes, Option, None, Some, Result, Ok, Err, is_none, if◌then◌else◌, position}
 use Rattle.std.specs.Option.{option_map_or}
 use Rattle.fix_fields.specs.Field.{Field}
 use Rattle.fix_fields.specs.Reading.{first_value}

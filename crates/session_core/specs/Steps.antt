@@ -6,12 +6,10 @@ use Rattle.session_core.specs.Said.{has_value, seq_num_of}
 use Rattle.session_core.specs.declared.acts.Act.TheVariants.{Send}
 use Rattle.session_core.specs.declared.acts.Admin.{Admin}
 use Rattle.session_core.specs.declared.acts.Admin.TheVariants.{Logout}
-use Rattle.session_core.specs.declared.causes.Cause.{Cause}
 use Rattle.session_core.specs.declared.causes.Cause.TheVariants.{NoNumber, LowNumber, CompId, LoggedOut}
 use Rattle.session_core.specs.declared.names.Names.{Names}
 use Rattle.session_core.specs.declared.steps.Step.{Step}
 use Rattle.session_core.specs.declared.steps.Step.TheVariants.{Ignore, Refuse, Close, Move, Deliver, Handle}
-use Rattle.session_core.specs.declared.tasks.Task.{Task}
 use Rattle.session_core.specs.declared.tasks.Task.TheVariants.{Nothing, Do}
 
 -- MsgSeqNum (34) isn't a number of its range

@@ -1,5 +1,5 @@
 -- What a message may lead to: the acts, and what is left to do for one that came early.
-use Rattle.std.specs.Prelude.{◌≡◌, ℕ, ◌≤◌, Bool, true, false, List, length, Option, None, Some}
+use Rattle.std.specs.Prelude.{◌≡◌, ◌≤◌, Bool, true, false, length, None, Some}
 use Rattle.seq_gaps.specs.Line.{IsNumber}
 use Rattle.session_core.specs.declared.acts.Act.{Act}
 use Rattle.session_core.specs.declared.acts.Act.TheVariants.{Accept, Send, Resend, Reset}

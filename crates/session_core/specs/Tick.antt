@@ -1,5 +1,5 @@
 -- What the clock asks of a session (FIX 4.4, volume 2, "Heartbeat", "Test Request").
-use Rattle.std.specs.Prelude.{ℕ, ◌+◌, ◌*◌, ◌==◌, nat_le, Bool, true, false, List, [], ◌∷◌, Option, None, Some, if◌then◌else◌}
+use Rattle.std.specs.Prelude.{ℕ, ◌+◌, ◌*◌, ◌==◌, nat_le, Bool, true, false, [], ◌∷◌, Option, None, Some, if◌then◌else◌}
 use Rattle.session_core.specs.State.{State}
 use Rattle.session_core.specs.declared.acts.Act.TheVariants.{Send}
 use Rattle.session_core.specs.declared.acts.Admin.TheVariants.{Heartbeat, TestRequest}

@@ -1,6 +1,5 @@
-use Rattle.std.proofs.Common.{◌≡◌, ◌+◌, ◌-◌, sym, ◌∙◌, ap, refl, arith}
+use Rattle.std.proofs.Common.{◌≡◌, ◌-◌, sym, ◌∙◌, refl, arith}
 use Rattle.seq_gaps.specs.declared.offered.TheConstants.{HELD_LIMIT}
-use Rattle.session_core.specs.Carry.{after_draining}
 use Rattle.session_core.proofs.Drains.{both, drained-zero, drain-stops, drain-goes_on}
 use Rattle.session_core.proofs.carry.drain.Goals as goal
 

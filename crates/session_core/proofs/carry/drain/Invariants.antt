@@ -2,7 +2,7 @@
 use Rattle.std.proofs.Common.{◌≡◌, ℕ, ◌+◌, ◌-◌, ◌≤◌, vec_len, vec_capacity}
 use Rattle.std.specs.FinMap.{len}
 use Rattle.seq_gaps.specs.declared.offered.TheConstants.{HELD_LIMIT}
-use Rattle.session_core.specs.Carry.{Progress, after_draining}
+use Rattle.session_core.specs.Carry.{after_draining}
 use Rattle.session_core.proofs.carry.drain.Given as goal
 
 abbrev pub invariant-loop-i : goal.invariant-loop-i

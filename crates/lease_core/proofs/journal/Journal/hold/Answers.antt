@@ -1,5 +1,5 @@
 -- a hold follows where it is owed
-use Rattle.std.proofs.Common.{◌≡◌, true, false, refl, sym, ap, ◌∙◌}
+use Rattle.std.proofs.Common.{◌≡◌, true, refl, sym, ap, ◌∙◌}
 use Rattle.lease_core.specs.declared.totals.Totals.{Totals}
 use Rattle.lease_core.specs.State.{state_of}
 use Rattle.lease_core.specs.Runs.{owes_hold}

@@ -1,8 +1,7 @@
 -- the test says just that the entry may stand next
-use Rattle.std.proofs.Common.{◌≡◌, true, sym, ap, ◌∙◌, subst}
+use Rattle.std.proofs.Common.{◌≡◌, sym, ap, ◌∙◌}
 use Rattle.lease_core.specs.declared.totals.Totals.{Totals}
 use Rattle.lease_core.specs.State.{state_of}
-use Rattle.lease_core.specs.Runs.{IsNext}
 use Rattle.lease_core.specs.Kept.{Kept}
 use Rattle.lease_core.specs.Totals.{totals_of}
 use Rattle.lease_core.specs.Accepts.{accepts}

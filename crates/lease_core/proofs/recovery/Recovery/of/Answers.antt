@@ -1,7 +1,5 @@
 -- each entry of a lawful journal may stand behind those before it
-use Rattle.std.proofs.Common.{sym, ap, ◌∙◌, subst}
-use Rattle.lease_core.specs.State.{state_of}
-use Rattle.lease_core.specs.Runs.{IsNext}
+use Rattle.std.proofs.Common.{◌∙◌}
 use Rattle.lease_core.proofs.LinesAfter.{next_at}
 use Rattle.lease_core.proofs.recovery.Recovery.of.Goals as goal
 

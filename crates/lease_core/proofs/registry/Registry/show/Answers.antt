@@ -1,9 +1,9 @@
 -- the word is news exactly where a library has the session
-use Rattle.std.proofs.Common.{◌≡◌, ◌-◌, ◌+◌, ◌<◌, ◌≤◌, false, true, cond, ◌&&◌, length, ap, sym, ◌∙◌, subst, arith}
+use Rattle.std.proofs.Common.{◌≡◌, ◌-◌, ◌+◌, ◌<◌, ◌≤◌, false, cond, ◌&&◌, length, ap, sym, ◌∙◌, subst, arith}
 use Rattle.lease_core.specs.declared.totals.Totals.{Totals}
 use Rattle.lease_core.specs.State.{state_of, SentMore, last_lease, owner_in, owner_of}
 use Rattle.lease_core.specs.Runs.{owes_hold}
-use Rattle.lease_core.specs.Lines.{lines_of, raises, missing_sends, is_released, entries_after_hold, entries_after_standing, entries_after_sends, news_count}
+use Rattle.lease_core.specs.Lines.{lines_of, missing_sends, is_released, entries_after_hold, entries_after_standing, entries_after_sends, news_count}
 use Rattle.lease_core.specs.Steps.{IsActive}
 use Rattle.lease_core.specs.Kept.{Kept, IsCurrent}
 use Rattle.lease_core.proofs.GivenBack.{nothing_new, extended_by, still_active, raises_owned, raises_free}

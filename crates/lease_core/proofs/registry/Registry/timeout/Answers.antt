@@ -1,11 +1,11 @@
 -- the library has the session still, so the engine takes it back
 use Rattle.std.proofs.Common.{◌≡◌, true, false, Bool, ◌&&◌, List, not, sym, ap, ◌∙◌, subst, refl}
-use Rattle.std.proofs.lemmas.Bool.{lt-ltb, false≢true}
+use Rattle.std.proofs.lemmas.Bool.{false≢true}
 use Rattle.lease_core.specs.declared.entry.Entry.{Entry}
 use Rattle.lease_core.specs.declared.word.Standing.{Standing}
 use Rattle.lease_core.specs.declared.word.Standing.TheVariants.{Active, Released, Revoked}
 use Rattle.lease_core.specs.declared.word.Word.{Word}
-use Rattle.lease_core.specs.State.{state_of, SentMore, owner_of}
+use Rattle.lease_core.specs.State.{state_of, SentMore}
 use Rattle.lease_core.specs.Lines.{lines_of, raises, raised, taken_back, is_released}
 use Rattle.lease_core.proofs.GivenBack.{raises_owned}
 use Rattle.lease_core.proofs.LinesAfter.{current_of, active_of}

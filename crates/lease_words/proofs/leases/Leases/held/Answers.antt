@@ -1,4 +1,4 @@
-use Rattle.std.proofs.Common.{rules, ◌≡◌, ◌<◌, ◌∙◌, ap, refl}
+use Rattle.std.proofs.Common.{rules, ◌∙◌, ap, refl}
 use Rattle.lease_words.specs.Leases.{held_lease}
 use Rattle.lease_words.specs.Views.{LibraryView, library_session}
 use Rattle.lease_words.proofs.LibraryAnswers.{held_told, row_within}

@@ -1,4 +1,4 @@
-use Rattle.std.proofs.Common.{◌≡◌, sym, refl, arith}
+use Rattle.std.proofs.Common.{sym, refl, arith}
 use Rattle.lease_words.specs.Layout.{slot_count}
 use Rattle.lease_words.proofs.MakingCalls.{opens_step, laid}
 use Rattle.lease_words.proofs.leases.Leases.lay_out.Goals as goal

@@ -1,4 +1,4 @@
-use Rattle.std.proofs.Common.{◌≡◌, ap, ◌∙◌}
+use Rattle.std.proofs.Common.{ap, ◌∙◌}
 use Rattle.std.specs.Prelude.{replicate}
 use Rattle.lease_words.proofs.Outsets.{outset_begins}
 use Rattle.lease_words.proofs.outset.Outset.new.Goals as goal

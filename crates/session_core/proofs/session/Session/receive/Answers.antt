@@ -1,8 +1,8 @@
-use Rattle.std.proofs.Common.{◌≡◌, subst, sym}
+use Rattle.std.proofs.Common.{subst, sym}
 use Rattle.std.proofs.lemmas.Result.{IfOk-weaker}
 use Rattle.std.specs.List.{All}
 use Rattle.session_core.specs.Laws.{AreActs}
-use Rattle.session_core.specs.State.{IsState, heart_in}
+use Rattle.session_core.specs.State.{IsState}
 use Rattle.session_core.specs.Tasks.{IsReply}
 use Rattle.session_core.specs.declared.acts.Effects.{Effects}
 use Rattle.session_core.proofs.States.{acts_of_messages, only_logons_reset}
