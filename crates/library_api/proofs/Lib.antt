@@ -1,0 +1,5 @@
+mod Records
+mod Deeds
+mod EventCauses
+mod Numbered
+mod TakenUp

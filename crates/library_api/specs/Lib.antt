@@ -1,0 +1,10 @@
+pub mod Waits
+pub mod Ends
+pub mod Known
+pub mod Requests
+pub mod Polls
+pub mod Causes
+pub mod Sends
+pub mod Releases
+pub mod Calls
+pub mod Laws
