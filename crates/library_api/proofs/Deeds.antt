@@ -1,9 +1,8 @@
 -- What a library's seat knows that it did is what its calls answered.
-use Rattle.std.proofs.Common.{◌≡◌, ◌≢◌, ℕ, zero, suc, ◌+◌, ◌<◌, ◌≤◌, ◌⊎◌, ◌==◌, List, [], ◌∷◌, ◌++◌, length, get_or, set, Bool, true, false, nat_le, nat_lt, if◌then◌else◌, refl, sym, ap, ◌∙◌, subst, inl, inr, ⊎_elim, eq-eqb, ne_eqb, arith, append_assoc, add-one}
-use Rattle.std.specs.Prelude.{Option, Some, None, Result, Ok, Err}
+use Rattle.std.proofs.Common.{◌≡◌, ℕ, ◌+◌, ◌<◌, ◌==◌, List, [], ◌∷◌, ◌++◌, length, get_or, set, Bool, true, false, nat_le, nat_lt, if◌then◌else◌, refl, sym, ap, ◌∙◌, subst, inl, inr, eq-eqb, ne_eqb, arith, append_assoc, add-one}
+use Rattle.std.specs.Prelude.{Option, Some, None, Ok, Err}
 use native.Mathlib.Decide.{ℕ_discrete}
 use Rattle.std.proofs.lemmas.Bool.{cases_lt}
-use Rattle.std.proofs.lemmas.Grind.{common_steps}
 use Rattle.std.proofs.lemmas.List.{get_or-set_same, get_or-set_other, get_or_past, set_past}
 use Rattle.lease_core.specs.declared.lease.Ending.{Ending}
 use Rattle.lease_core.specs.declared.lease.Ending.TheVariants.{Running, GivenBack, TakenBack}
@@ -21,8 +20,8 @@ use Rattle.library_api.specs.declared.refusal.ReleaseRefusal.TheVariants as rele
 use Rattle.library_api.specs.declared.refusal.HandRefusal.TheVariants as handing
 use Rattle.library_api.specs.declared.refusal.AskError.TheVariants as asking
 use Rattle.library_api.specs.declared.reading.Message.{Message}
-use Rattle.library_api.specs.Ends.{seat_after_beat, seat_after_see, seat_after_arrival, with_session}
-use Rattle.library_api.specs.Known.{Known, reading_at, holds, held, lease_in, sends_made, session_at, with_seat}
+use Rattle.library_api.specs.Ends.{seat_after_beat, seat_after_see, seat_after_arrival}
+use Rattle.library_api.specs.Known.{Known, reading_at, holds, held, sends_made, session_at, with_seat}
 use Rattle.library_api.specs.Polls.{Found, Polled, shows, saw_word, saw_published, with_none_kept, with_request_closed, after_pop, after_taking_up, after_grant, after_published, after_message, after_notice, after_poll, taken_up}
 use Rattle.library_api.specs.Calls.{Call, asks, polls, sends, send_refused, gives_back, release_refused, hand_refused, beats, is_done, meets, after_call, after_calls, IsLawful, AreLawful, Deed, did_send, did_give, sends_by, end_by, deeds_by, deeds_in, deeds_of}
 

@@ -2,4 +2,5 @@ mod Records
 mod Deeds
 mod EventCauses
 mod Numbered
+mod Readings
 mod TakenUp

@@ -1,7 +1,6 @@
 -- A library's requests are numbered, and closed by their answers.
-use Rattle.std.proofs.Common.{◌≡◌, ℕ, zero, suc, ◌+◌, List, [], ◌∷◌, ◌++◌, Bool, true, false, nat_le, if◌then◌else◌, refl, sym, ap, ◌∙◌, subst, arith, add-one}
-use Rattle.std.specs.Prelude.{Option, Some, None, Result, Ok, Err}
-use Rattle.std.proofs.lemmas.Grind.{common_steps}
+use Rattle.std.proofs.Common.{◌≡◌, ℕ, List, [], ◌∷◌, ◌++◌, Bool, true, false, nat_le, if◌then◌else◌, refl, sym, ap, ◌∙◌, subst, add-one}
+use Rattle.std.specs.Prelude.{Option, Some, None, Ok, Err}
 use Rattle.lease_core.specs.declared.messages.Command.{Command}
 use Rattle.lease_core.specs.declared.messages.Command.TheVariants as commands
 use Rattle.lease_core.specs.declared.messages.Notice.{Notice}

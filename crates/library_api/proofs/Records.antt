@@ -1,5 +1,5 @@
 -- A library's record of a session.
-use Rattle.std.proofs.Common.{◌≡◌, ℕ, ◌≤◌, length, set, ap, refl}
+use Rattle.std.proofs.Common.{◌≡◌, ℕ, ◌≤◌, length}
 use Rattle.std.proofs.lemmas.List.{set_past}
 use Rattle.library_api.specs.declared.reading.Reading.{Reading}
 use Rattle.library_api.specs.Known.{Known, with_reading}

@@ -17,7 +17,7 @@ abbrev loaded : (k k1 k2 : Known) (notice : Option Notice) → Polled
 loaded k k1 k2 notice = record { pushed = k1.ends.head.pushed; popped = popped_since k k1; found = found_in k2 notice }
 
 -- To take up a notice changes nothing that decides what is answered on it.
-event_at : (k : Known) (kept : Option Message) (pushed : ℕ) (popped : Option Notice) (found : Found) (n : Option Notice)
+pub event_at : (k : Known) (kept : Option Message) (pushed : ℕ) (popped : Option Notice) (found : Found) (n : Option Notice)
     → notice_event (with_none_kept (after_pop kept (with_seat k (seat_after_beat k.ends.seat)) pushed popped)) found n ≡ notice_event k found n
 event_at k (Some m) pushed popped found None = refl
 event_at k (Some m) pushed popped found (Some (notices.Granted nr s lease from start)) = refl

@@ -9,13 +9,16 @@ use Rattle.lease_core.specs.declared.messages.Notice.TheVariants as notices
 use Rattle.lease_words.specs.declared.item.Item.{Item}
 use Rattle.lease_words.specs.declared.view.LibraryLease.{LibraryLease}
 use Rattle.ring_links.specs.declared.queue.Full.{Full}
+use Rattle.library_api.specs.declared.event.Event.{Event}
+use Rattle.library_api.specs.declared.event.Event.TheVariants as events
+use Rattle.library_api.specs.declared.reading.Reading.{Reading}
 use Rattle.library_api.specs.declared.refusal.AskError.{AskError}
 use Rattle.library_api.specs.declared.refusal.SendRefusal.{SendRefusal}
 use Rattle.library_api.specs.declared.refusal.ReleaseRefusal.{ReleaseRefusal}
 use Rattle.library_api.specs.declared.refusal.HandRefusal.{HandRefusal}
 use Rattle.library_api.specs.declared.waited.WaitKind.TheVariants.{Free}
 use Rattle.library_api.specs.Ends.{EndsView, seat_after_beat}
-use Rattle.library_api.specs.Known.{Known, held, sends_made, session_at, with_seat, after_waiting}
+use Rattle.library_api.specs.Known.{Known, no_reading, held, sends_made, with_seat, after_waiting}
 use Rattle.library_api.specs.Requests.{after_request, after_done, CarriesAsked}
 use Rattle.library_api.specs.Polls.{Polled, after_poll}
 use Rattle.library_api.specs.Sends.{after_sent, after_send_refused, IsOneItem}
@@ -127,6 +130,16 @@ numbers_to (suc n) = numbers_to n ++ suc n ∷ []
 pub record AreNumbered (k : Known) : Type 0 where
   pub numbers : numbers_in k.ends.tail.pushed ≡ numbers_to k.asked
   pub last : (nr : ℕ) → k.unanswered ≡ Some nr → nr ≡ k.asked
+
+-- What an event makes of the reading of a session: a grant begins at its position, a message goes on behind its own, and a loss ends it.
+abbrev pub reading_by : ℕ → Event → Reading → Reading
+reading_by s events.Nothing r = r
+reading_by s (events.NotYet t pos published) r = r
+reading_by s (events.Granted nr t lease from start) r = if t == s then record { lease = lease; next = from } else r
+reading_by s (events.Refused nr t why) r = r
+reading_by s (events.Message t lease pos bytes) r = if t == s then record { lease = lease; next = pos + 1 } else r
+reading_by s (events.Stale t lease pos) r = r
+reading_by s (events.LeaseLost t lease seen) r = if t == s then no_reading else r
 
 -- a notice is the answer to a request
 abbrev pub closes : Option Notice → Option ℕ → Option ℕ

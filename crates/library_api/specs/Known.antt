@@ -1,5 +1,5 @@
 -- What a library knows.
-use Rattle.std.specs.Prelude.{ℕ, ◌==◌, nat_lt, ◌&&◌, Bool, if◌then◌else◌, List, Option, None, Some, slice_index_or, slice_set, replicate}
+use Rattle.std.specs.Prelude.{ℕ, ◌==◌, nat_lt, ◌&&◌, Bool, if◌then◌else◌, List, Option, None, slice_index_or, slice_set, replicate}
 use Rattle.lease_words.specs.declared.view.LibrarySession.{LibrarySession}
 use Rattle.lease_words.specs.Leases.{held_lease, held_count}
 use Rattle.lease_words.specs.Views.{LibraryView, library_at}

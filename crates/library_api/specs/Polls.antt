@@ -4,7 +4,6 @@ use Rattle.lease_core.specs.Lines.{opening_word}
 use Rattle.lease_core.specs.declared.messages.Notice.{Notice}
 use Rattle.lease_core.specs.declared.messages.Notice.TheVariants as notices
 use Rattle.lease_core.specs.declared.word.Word.{Word}
-use Rattle.lease_words.specs.declared.view.LibrarySession.{LibrarySession}
 use Rattle.lease_words.specs.Leases.{shows_lease}
 use Rattle.lease_words.specs.Views.{LibraryView, library_at}
 use Rattle.library_api.specs.declared.event.Event.{Event}
@@ -13,7 +12,7 @@ use Rattle.library_api.specs.declared.reading.Message.{Message}
 use Rattle.library_api.specs.declared.waited.WaitKind.{WaitKind}
 use Rattle.library_api.specs.declared.waited.WaitKind.TheVariants.{Free, Event as ForEvent}
 use Rattle.library_api.specs.Ends.{head_after, seat_after_see, seat_after_arrival, seat_after_beat}
-use Rattle.library_api.specs.Known.{Known, holds, session_at, with_seat, with_reading, without_reading, after_waiting}
+use Rattle.library_api.specs.Known.{Known, holds, with_seat, with_reading, without_reading, after_waiting}
 
 -- what a poll loads of a notice's session: the published count and the word
 pub record Found : Type 0 where

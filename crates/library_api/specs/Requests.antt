@@ -1,8 +1,7 @@
 -- What a request, and the word that all is done, come to.
-use Rattle.std.specs.Prelude.{◌≡◌, ◌≢◌, ℕ, ◌+◌, List, [], ◌∷◌, length, Option, Some, None, IsNone, IsSome, Result, Ok, Err}
+use Rattle.std.specs.Prelude.{◌≡◌, ◌≢◌, ℕ, ◌+◌, List, [], ◌∷◌, length, Some, None, Result, Ok, Err}
 use Rattle.lease_core.specs.declared.messages.Command.{Command}
-use Rattle.lease_core.specs.declared.messages.Command.TheVariants.{Request, Done as AllDone}
-use Rattle.ring_links.specs.Ends.{IsFull}
+use Rattle.lease_core.specs.declared.messages.Command.TheVariants.{Request}
 use Rattle.ring_links.specs.declared.queue.Full.{Full}
 use Rattle.library_api.specs.declared.refusal.AskError.{AskError}
 use Rattle.library_api.specs.declared.refusal.AskError.TheVariants.{Outstanding, AsksSpent, RingFull}

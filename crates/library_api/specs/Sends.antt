@@ -1,7 +1,6 @@
 -- What a send comes to.
 use Rattle.std.specs.Prelude.{◌≡◌, ℕ, ◌+◌, ◌<◌, ◌≤◌, List, [], ◌∷◌, length, drop, None, Some}
 use Rattle.fix_fields.specs.Fit.{unfit_at}
-use Rattle.lease_core.specs.declared.word.Word.{Word}
 use Rattle.lease_words.specs.declared.item.Item.{Item}
 use Rattle.lease_words.specs.declared.item.SendError.{SendError}
 use Rattle.lease_words.specs.declared.item.SendError.TheVariants as errors

@@ -22,7 +22,7 @@ mod waited;
 
 pub use ends::{LibraryEnds2, Links};
 pub use event::Event;
-pub use laws::{deeds_are_answered, requests_are_numbered};
+pub use laws::{deeds_are_answered, readings_follow_events, requests_are_numbered};
 pub use library::Library;
 pub use refusal::{AskError, HandRefusal, ReleaseRefusal, Released, SendRefusal};
 pub use waited::{WaitKind, Waited};

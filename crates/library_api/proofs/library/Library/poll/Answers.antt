@@ -1,11 +1,11 @@
 use Rattle.std.proofs.Common.{◌≡◌, sym, ◌∙◌, subst, ap}
-use Rattle.std.specs.Prelude.{◌↔◌, Option, IsNone}
+use Rattle.std.specs.Prelude.{◌↔◌, Option}
 use Rattle.lease_core.specs.declared.messages.Notice.{Notice}
 use Rattle.library_api.specs.declared.waited.WaitKind.{WaitKind}
 use Rattle.library_api.specs.declared.event.Event.{Event}
 use Rattle.library_api.specs.Known.{Known, after_waiting}
-use Rattle.library_api.specs.Polls.{Polled, after_poll, event_of, polled, popped_since, taken_up, waits_for}
-use Rattle.library_api.specs.Causes.{IsNothing, IsStale, IsNotYet, IsLeaseLost, IsRefused, OfNoLease, IsEarly, HasLostLease, OfRefusal}
+use Rattle.library_api.specs.Polls.{Polled, event_of, polled, taken_up, waits_for}
+use Rattle.library_api.specs.Causes.{IsNothing, IsStale, IsNotYet, IsLeaseLost, IsRefused}
 use Rattle.library_api.proofs.EventCauses.{nothing_cause, stale_cause, early_cause, lost_cause, refused_cause}
 use Rattle.library_api.proofs.TakenUp.{HasPolled, has_polled}
 use Rattle.library_api.proofs.library.Library.poll.Goals as goal
