@@ -11,15 +11,9 @@ use std::alloc::Global;
 use std::marker::Brand;
 use std::sync::ledger::{Blank, Ledger};
 
-// The capacity of a notice ring. A ring of it is seen to be full before a message is copied.
-const CAPACITY: u64 = 256;
-
 /// Pushes the messages of a log from the cursor on, in order, until the log's end or until the
 /// ring has no room. After `OutOfMemory` what was pushed stays pushed, and the cursor stands behind
-/// it.
-///
-/// Each message is copied once, for the ring. In a ring of less than 256 places one more may be
-/// copied, and let go.
+/// it. Each message is copied once, for the ring, and only where the ring has room.
 pub fn pump(
     alloc: Global,
     log: &InLog,
@@ -28,7 +22,6 @@ pub fn pump(
     tail: &mut Tail<Notice>,
 ) -> Result<Pumped, NoMemory>
     requires ring { tail.old.ring ≡ ring.now }
-    requires places { ring.now.capacity ≤ 256 }
     requires cursor { cursor.old.at ≤ length log.now.items }
 
     // What was pushed are the messages that the cursor passed.
@@ -64,7 +57,6 @@ fn pump_in<L: Ledger>(
     requires parts { blank.parts ≡ L.parts }
     requires some { 0 < blank.parts }
     requires ring { tail.old.ring ≡ ring.now }
-    requires places { ring.now.capacity ≤ 256 }
     requires cursor { cursor.old.at ≤ length log.now.items }
     ensures cursor { cursor.new ≡ record cursor.old { at = cursor.new.at } }
     ensures forward { cursor.old.at ≤ cursor.new.at }
@@ -107,7 +99,6 @@ fn push_next<L: Ledger>(
     steps: &mut Steps<L>,
 ) -> Result<Option<Stop>, NoMemory>
     requires ring { tail.old.ring ≡ ring.now }
-    requires places { ring.now.capacity ≤ 256 }
     requires cursor { cursor.old.at < length log.now.items }
     requires few { length log.now.items ≤ 2 ^ 63 }
     ensures pushed { IfOk result (λ stop. MatchOption stop (tail.new.pushed ≡ tail.old.pushed ++ message_at cursor.old log.now.items 0 ∷ []) (λ why. tail.new.pushed ≡ tail.old.pushed)) }
@@ -122,23 +113,18 @@ fn push_next<L: Ledger>(
     ensures heard { tail.old.told ≤ tail.new.taken }
 {
     let room = ring.room(tail);
-    if room.pushed - room.taken == CAPACITY {
+    if room.pushed - room.taken == ring.capacity() || room.pushed == u64::MAX {
         return Ok(Some(Stop::RingFull {
             pushed: room.pushed,
             taken: room.taken,
         }));
     }
     let message = copy_of(alloc, log, cursor, steps)?;
-    match ring.push(tail, message) {
-        Ok(()) => {
-            cursor.at += 1;
-            Ok(None)
-        }
-        Err(full) => Ok(Some(Stop::RingFull {
-            pushed: full.pushed,
-            taken: full.taken,
-        })),
-    }
+    let Ok(()) = ring.push(tail, message) else {
+        unreachable!()
+    };
+    cursor.at += 1;
+    Ok(None)
 }
 
 // A copy of the message at the cursor, with what a library is told of it.

@@ -66,6 +66,13 @@ impl<T> Ring<T> {
     ghost use Rattle.std.specs.Prelude.{◌↔◌, [], ◌∷◌, ◌++◌, drop, IsOk, IsErr, IfErr, IsNone, IsSome, OnOk, OnErr, option_to_list, slice_get};
     ghost use Rattle.ring_links.specs.Ends.{IsFull, HasRoom};
 
+    /// For how many items the ring has room.
+    pub fn capacity(&self) -> u64
+        ensures { result ≡ self.now.capacity }
+    {
+        self.table.slot_count() as u64
+    }
+
     /// Pushes an item, or hands it back where the ring is full: where the pushed count less the
     /// taken count is the capacity, or the pushed count is 2^64 - 1.
     pub fn push(&self, tail: &mut Tail<T>, item: T) -> Result<(), Full<T>>
