@@ -6,7 +6,7 @@ use Rattle.std.proofs.lemmas.List.{get_or_append_left}
 use Rattle.std.proofs.lemmas.Grind.{common_steps}
 use Rattle.lease_core.specs.declared.messages.Notice.{Notice}
 use Rattle.catchup_pump.specs.declared.cursor.Cursor.{Cursor}
-use Rattle.catchup_pump.specs.Pump.{message_at, messages_from, has_moved}
+use Rattle.catchup_pump.specs.Pump.{message_at, messages_from, cursor_after}
 
 got_before : {X : Type 0} (xs : List X) (x : X) (i : ℕ) → i < length xs → slice_get (xs ++ x ∷ []) i ≡ slice_get xs i
 got_before [] x i below = absurd (omega arith)
@@ -17,7 +17,7 @@ got_last : {X : Type 0} (xs : List X) (x : X) → slice_get (xs ++ x ∷ []) (le
 got_last [] x = refl
 got_last (y ∷ xs) x = got_last xs x
 
-pub joined : (c : Cursor) (log : List (List ℕ)) (m n : ℕ) → messages_from c log (m + n) ≡ messages_from c log m ++ messages_from (has_moved c m) log n
+pub joined : (c : Cursor) (log : List (List ℕ)) (m n : ℕ) → messages_from c log (m + n) ≡ messages_from c log m ++ messages_from (cursor_after c m) log n
 joined c log m zero = grind (arith, common_steps)
 joined c log m (suc n) = rw (add-suc, joined c log m n, append_assoc, ← add_assoc c.at m n)
 
@@ -52,9 +52,9 @@ one_more c log pos from =
 
 -- and the cursor and what was pushed are those of one position further on
 pub gone_on : (start c c' : Cursor) (log : List (List ℕ)) (pos : ℕ) (before p p' : List Notice) → start.at ≤ pos
-    → c ≡ record start { at = pos } → c' ≡ has_moved c 1 → p ≡ before ++ messages_from start log (pos - start.at) → p' ≡ p ++ message_at c log 0 ∷ []
+    → c ≡ record start { at = pos } → c' ≡ cursor_after c 1 → p ≡ before ++ messages_from start log (pos - start.at) → p' ≡ p ++ message_at c log 0 ∷ []
     → (c' ≡ record start { at = pos + 1 }) × (p' ≡ before ++ messages_from start log (pos + 1 - start.at))
 gone_on start c c' log pos before p p' from here moved was pushed = (
-  moved ∙ ap (λ (k : Cursor). has_moved k 1) here,
+  moved ∙ ap (λ (k : Cursor). cursor_after k 1) here,
   rw (pushed, was, here, one_more start log pos from, append_assoc),
 )

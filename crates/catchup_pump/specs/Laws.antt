@@ -1,11 +1,11 @@
 -- What holds of the messages that pumps push.
 use Rattle.std.specs.Prelude.{◌≡◌, ℕ, ◌+◌, ◌<◌, ◌≤◌, List, ◌++◌, length, slice_get, Some}
 use Rattle.catchup_pump.specs.declared.cursor.Cursor.{Cursor}
-use Rattle.catchup_pump.specs.Pump.{message_at, messages_from, has_moved}
+use Rattle.catchup_pump.specs.Pump.{message_at, messages_from, cursor_after}
 
 -- the messages from a cursor on are those up to a place, and then those from there on
 abbrev pub PumpsJoin : Type 0
-PumpsJoin = (c : Cursor) (log : List (List ℕ)) (m n : ℕ) → messages_from c log (m + n) ≡ messages_from c log m ++ messages_from (has_moved c m) log n
+PumpsJoin = (c : Cursor) (log : List (List ℕ)) (m n : ℕ) → messages_from c log (m + n) ≡ messages_from c log m ++ messages_from (cursor_after c m) log n
 
 -- what arrives later changes no message before it
 abbrev pub LogsGrow : Type 0

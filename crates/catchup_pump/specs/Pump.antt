@@ -17,8 +17,8 @@ messages_from c log zero = []
 messages_from c log (suc n) = messages_from c log n ++ message_at c log n ∷ []
 
 -- the cursor n positions further on
-abbrev pub has_moved : Cursor → ℕ → Cursor
-has_moved c n = record c { at = c.at + n }
+abbrev pub cursor_after : Cursor → ℕ → Cursor
+cursor_after c n = record c { at = c.at + n }
 
 -- a fact holds where a pump stopped at the log's end
 abbrev pub OnLogEnd : Stop → Type 0 → Type 0

@@ -1,6 +1,6 @@
 //! The pump.
 ghost use Rattle.std.specs.Prelude.{◌≡◌, ◌+◌, ◌-◌, ◌^◌, ◌<◌, ◌≤◌, ◌∷◌, [], ◌++◌, length, OnErr, IfOk, MatchOption};
-ghost use Rattle.catchup_pump.specs.Pump.{messages_from, message_at, has_moved, OnLogEnd, OnRingFull, FoundFull};
+ghost use Rattle.catchup_pump.specs.Pump.{messages_from, message_at, cursor_after, OnLogEnd, OnRingFull, FoundFull};
 
 use crate::cursor::{Cursor, Pumped, Stop};
 use gate_io::{Bytes, NoMemory};
@@ -102,7 +102,7 @@ fn push_next<L: Ledger>(
     requires cursor { cursor.old.at < length log.now.items }
     requires few { length log.now.items ≤ 2 ^ 63 }
     ensures pushed { IfOk result (λ stop. MatchOption stop (tail.new.pushed ≡ tail.old.pushed ++ message_at cursor.old log.now.items 0 ∷ []) (λ why. tail.new.pushed ≡ tail.old.pushed)) }
-    ensures moved { IfOk result (λ stop. MatchOption stop (cursor.new ≡ has_moved cursor.old 1) (λ why. cursor.new ≡ cursor.old)) }
+    ensures moved { IfOk result (λ stop. MatchOption stop (cursor.new ≡ cursor_after cursor.old 1) (λ why. cursor.new ≡ cursor.old)) }
     ensures full { IfOk result (λ stop. MatchOption stop (Unit {0}) (λ why. OnLogEnd why ⊥)) }
     ensures ring_full { IfOk result (λ stop. MatchOption stop (Unit {0}) (λ why. OnRingFull why (FoundFull tail.old tail.new))) }
     ensures err { OnErr result ((tail.new.pushed ≡ tail.old.pushed) × (cursor.new ≡ cursor.old)) }
