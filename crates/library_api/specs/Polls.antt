@@ -1,10 +1,10 @@
 -- What a poll comes to.
-use Rattle.std.specs.Prelude.{ℕ, ◌+◌, nat_lt, nat_le, ◌==◌, ◌&&◌, Bool, true, false, if◌then◌else◌, List, [], ◌∷◌, length, drop, Option, Some, None, option_to_list}
+use Rattle.std.specs.Prelude.{◌≡◌, ◌≢◌, ℕ, ◌+◌, ◌<◌, ◌≤◌, nat_lt, nat_le, ◌==◌, ◌&&◌, Bool, true, false, if◌then◌else◌, List, [], ◌∷◌, length, drop, Option, Some, None, option_to_list}
 use Rattle.lease_core.specs.Lines.{opening_word}
 use Rattle.lease_core.specs.declared.messages.Notice.{Notice}
 use Rattle.lease_core.specs.declared.messages.Notice.TheVariants as notices
 use Rattle.lease_core.specs.declared.word.Word.{Word}
-use Rattle.lease_words.specs.Leases.{shows_lease}
+use Rattle.lease_words.specs.Leases.{shows_lease, held_lease, Each, IsNotOlder, AreBelow}
 use Rattle.lease_words.specs.Views.{LibraryView, library_at}
 use Rattle.library_api.specs.declared.event.Event.{Event}
 use Rattle.library_api.specs.declared.event.Event.TheVariants as events
@@ -12,7 +12,7 @@ use Rattle.library_api.specs.declared.reading.Message.{Message}
 use Rattle.library_api.specs.declared.waited.WaitKind.{WaitKind}
 use Rattle.library_api.specs.declared.waited.WaitKind.TheVariants.{Free, Event as ForEvent}
 use Rattle.library_api.specs.Ends.{head_after, seat_after_see, seat_after_arrival, seat_after_beat}
-use Rattle.library_api.specs.Known.{Known, holds, with_seat, with_reading, without_reading, after_waiting}
+use Rattle.library_api.specs.Known.{Known, holds, held, reading_count, session_at, with_seat, with_reading, without_reading, after_waiting}
 
 -- what a poll loads of a notice's session: the published count and the word
 pub record Found : Type 0 where
@@ -154,3 +154,45 @@ abbrev pub polled : Known → Known → Polled
 polled before after =
     let popped = popped_since before after in
     record { pushed = after.ends.head.pushed; popped = popped; found = found_in after (taken_up before.kept popped) }
+
+-- A poll loads the published count of the session of a message whose lease is held.
+abbrev pub LoadsCount : Known → Option Notice → Type 0
+LoadsCount k None = ⊥
+LoadsCount k (Some (notices.Granted nr s lease from start)) = ⊥
+LoadsCount k (Some (notices.Refused nr s why)) = ⊥
+LoadsCount k (Some (notices.Message s lease pos bytes)) = holds k s lease ≡ true
+
+-- and the word of the session of a grant, and of such a message where the count is above its position
+abbrev pub LoadsWord : Known → Found → Option Notice → Type 0
+LoadsWord k found None = ⊥
+LoadsWord k found (Some (notices.Granted nr s lease from start)) = Unit {0}
+LoadsWord k found (Some (notices.Refused nr s why)) = ⊥
+LoadsWord k found (Some (notices.Message s lease pos bytes)) = (holds k s lease ≡ true) × (pos < found.published)
+
+-- no word that was seen or told of is newer than this one
+abbrev pub IsLatest : LibraryView → ℕ → Word → Type 0
+IsLatest seat s w = s < seat.table.shape.sessions → Each (λ seen. IsNotOlder seen w) (library_at seat s).words
+
+-- a lease that the seat didn't hold before is above all that it ever had
+abbrev pub IsNewLease : LibraryView → ℕ → Word → Type 0
+IsNewLease seat s w = s < seat.table.shape.sessions → shows_lease seat.knows.number w ≡ true → held_lease (library_at seat s).leases ≢ w.lease → AreBelow w.lease (library_at seat s).leases
+
+-- what is known of the loads of a poll that took up this notice
+pub record LoadsLate (k : Known) (found : Found) (n : Option Notice) : Type 0 where
+  pub count : LoadsCount k n → (session_at k (session_of n)).published ≤ found.published
+  pub word : LoadsWord k found n → IsLatest k.ends.seat (session_of n) found.word
+  pub lease : LoadsWord k found n → IsNewLease k.ends.seat (session_of n) found.word
+
+-- a fact holds of the session and lease of a grant and of a message that are handed on
+abbrev pub OnHolding : Event → (ℕ → ℕ → Type 0) → Type 0
+OnHolding events.Nothing P = Unit {0}
+OnHolding (events.NotYet s pos published) P = Unit {0}
+OnHolding (events.Granted nr s lease from start) P = P s lease
+OnHolding (events.Refused nr s why) P = Unit {0}
+OnHolding (events.Message s lease pos bytes) P = P s lease
+OnHolding (events.Stale s lease pos) P = Unit {0}
+OnHolding (events.LeaseLost s lease seen) P = Unit {0}
+
+-- the library holds this lease of a session of which it keeps a record
+abbrev pub HasHold : Known → ℕ → ℕ → Type 0
+HasHold k s lease = s < reading_count → held k s ≡ lease

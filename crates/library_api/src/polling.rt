@@ -2,8 +2,8 @@
 ghost use Rattle.std.specs.Prelude.{◌≡◌, ◌↔◌, ◌+◌, ◌<◌, ◌≤◌, true, false, length, slice_get, MatchOption, IsNone, Some};
 ghost use Rattle.library_api.specs.Causes.{IsNothing, IsStale, IsNotYet, IsLeaseLost, IsRefused, OfNoLease, IsEarly, HasLostLease, OfRefusal};
 ghost use Rattle.library_api.specs.Ends.{belongings};
-ghost use Rattle.library_api.specs.Known.{holds};
-ghost use Rattle.library_api.specs.Polls.{event_of, after_poll, polled, notice_event, after_notice, message_event, after_message, after_grant, saw_word, after_taking_up, taken_up, popped_since, found_in, word_seen, shows, waits_for, notice_of};
+ghost use Rattle.library_api.specs.Known.{holds, session_at};
+ghost use Rattle.library_api.specs.Polls.{LoadsCount, LoadsWord, LoadsLate, IsLatest, IsNewLease, OnHolding, HasHold, session_of, event_of, after_poll, polled, notice_event, after_notice, message_event, after_message, after_grant, saw_word, after_taking_up, taken_up, popped_since, found_in, word_seen, published_seen, shows, waits_for, notice_of};
 
 use crate::ends::Links;
 use crate::event::Event;
@@ -35,6 +35,15 @@ impl Library {
         ensures told { IsNone self.old.kept → 0 < length self.old.ends.head.told → popped_since self.old self.new ≡ slice_get self.old.ends.head.told 0 }
         ensures heard { IsNone self.old.kept → length self.old.ends.head.popped + length self.old.ends.head.told ≤ self.new.ends.head.pushed }
         ensures later { self.old.ends.head.pushed ≤ self.new.ends.head.pushed }
+
+        // A published count that is loaded isn't less than one that was known, and no word that is
+        // loaded is older than one that was.
+        ensures count { let o = polled self.old self.new in let n = taken_up self.old.kept o.popped in LoadsCount self.old n → (session_at self.old (session_of n)).published ≤ o.found.published }
+        ensures word { let o = polled self.old self.new in let n = taken_up self.old.kept o.popped in LoadsWord self.old o.found n → IsLatest self.old.ends.seat (session_of n) o.found.word }
+        ensures lease { let o = polled self.old self.new in let n = taken_up self.old.kept o.popped in LoadsWord self.old o.found n → IsNewLease self.old.ends.seat (session_of n) o.found.word }
+
+        // After a grant and a message its lease is held.
+        ensures held { OnHolding result (HasHold self.new) }
     {
         let notice = self.take_up(links);
         let event = self.answer(links, notice);
@@ -72,6 +81,8 @@ impl Library {
         ensures library { self.new ≡ after_notice self.old (found_in self.new notice) notice }
         ensures belongings { belongings self.new.ends ≡ belongings self.old.ends }
         ensures event { result ≡ notice_event self.old (found_in self.new notice) notice }
+        ensures late { LoadsLate self.old (found_in self.new notice) notice }
+        ensures held { OnHolding result (HasHold self.new) }
         ensures head { self.new.ends.head ≡ self.old.ends.head }
     {
         match notice {
@@ -127,6 +138,9 @@ impl Library {
         ensures library { let w = word_seen self.new.ends.seat s in self.new ≡ after_grant (saw_word self.old s w) s lease from (shows self.old.ends.seat.knows.number lease w) }
         ensures belongings { belongings self.new.ends ≡ belongings self.old.ends }
         ensures lost { let w = word_seen self.new.ends.seat s in MatchOption result (shows self.old.ends.seat.knows.number lease w ≡ true) (λ seen. (seen ≡ w) × (shows self.old.ends.seat.knows.number lease w ≡ false)) }
+        ensures latest { IsLatest self.old.ends.seat s (word_seen self.new.ends.seat s) }
+        ensures lease { IsNewLease self.old.ends.seat s (word_seen self.new.ends.seat s) }
+        ensures held { IsNone result → HasHold self.new s lease }
         ensures head { self.new.ends.head ≡ self.old.ends.head }
     {
         let word = self.see(links, s);
@@ -146,6 +160,10 @@ impl Library {
         ensures library { let found = found_in self.new (Some (notice_of message)) in self.new ≡ after_message self.old message (holds self.old message.s message.lease) (shows self.old.ends.seat.knows.number message.lease found.word) found }
         ensures belongings { belongings self.new.ends ≡ belongings self.old.ends }
         ensures event { let found = found_in self.new (Some (notice_of message)) in result ≡ message_event message (holds self.old message.s message.lease) (shows self.old.ends.seat.knows.number message.lease found.word) found }
+        ensures count { holds self.old message.s message.lease ≡ true → (session_at self.old message.s).published ≤ published_seen self.new.ends.seat message.s }
+        ensures latest { holds self.old message.s message.lease ≡ true → message.pos < published_seen self.new.ends.seat message.s → IsLatest self.old.ends.seat message.s (word_seen self.new.ends.seat message.s) }
+        ensures lease { holds self.old message.s message.lease ≡ true → message.pos < published_seen self.new.ends.seat message.s → IsNewLease self.old.ends.seat message.s (word_seen self.new.ends.seat message.s) }
+        ensures held { OnHolding result (HasHold self.new) }
         ensures head { self.new.ends.head ≡ self.old.ends.head }
     {
         let (s, lease, pos) = (message.s, message.lease, message.pos);

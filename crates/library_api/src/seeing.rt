@@ -1,9 +1,9 @@
 //! What a library loads of a session, and its record of it.
-ghost use Rattle.std.specs.Prelude.{◌≡◌, ◌<◌, ◌≤◌};
-ghost use Rattle.lease_words.specs.Leases.{held_lease, Each, IsNotOlder};
+ghost use Rattle.std.specs.Prelude.{◌≡◌, ◌<◌, ◌≤◌, true, if◌then◌else◌};
+ghost use Rattle.lease_words.specs.Leases.{held_lease, shows_lease};
 ghost use Rattle.library_api.specs.Ends.{belongings};
 ghost use Rattle.library_api.specs.Known.{held, holds, session_at, reading_at, with_reading};
-ghost use Rattle.library_api.specs.Polls.{saw_word, saw_published, word_seen, published_seen};
+ghost use Rattle.library_api.specs.Polls.{saw_word, saw_published, word_seen, published_seen, IsLatest, IsNewLease};
 
 use crate::ends::Links;
 use crate::library::{Library, RECORDS};
@@ -37,7 +37,8 @@ impl Library {
     /// Whether the library holds this lease of the session.
     pub(crate) fn holds(&self, links: &Links, s: u16, lease: u32) -> bool
         requires links { self.now.ends.seat.table ≡ links.now.leases.now }
-        ensures { result ≡ holds self.now s lease }
+        ensures holds { result ≡ holds self.now s lease }
+        ensures session { result ≡ true → s < links.now.leases.now.shape.sessions }
     {
         lease > 0 && self.held(links, s) == lease
     }
@@ -57,7 +58,9 @@ impl Library {
         ensures belongings { belongings self.new.ends ≡ belongings self.old.ends }
         ensures word { word_seen self.new.ends.seat s ≡ result }
         ensures published { published_seen self.new.ends.seat s ≡ published_seen self.old.ends.seat s }
-        ensures later { s < links.now.leases.now.shape.sessions → Each (λ seen. IsNotOlder seen result) (session_at self.old s).words }
+        ensures latest { IsLatest self.old.ends.seat s result }
+        ensures lease { IsNewLease self.old.ends.seat s result }
+        ensures held { s < links.now.leases.now.shape.sessions → held_lease (session_at self.new s).leases ≡ (if shows_lease self.old.ends.seat.knows.number result then result.lease else 0) }
     {
         links.leases.see(&mut self.ends.seat, s)
     }

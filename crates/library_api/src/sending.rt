@@ -4,7 +4,7 @@ ghost use Rattle.fix_fields.specs.Fit.{unfit_at};
 ghost use Rattle.lease_words.specs.Answers.{HasLoaded};
 ghost use Rattle.library_api.specs.Known.{held, sends_made, session_at};
 ghost use Rattle.library_api.specs.Ends.{belongings};
-ghost use Rattle.library_api.specs.Sends.{after_sent, after_send_refused, taken_seen, items_since, IsOneItem, IsSendable, LaneIsFull, LeaseIsSpent, IsNotHeld, IsTooLong, IsBadBody, IsLaneFull, IsSendsSpent, SendCause, HasSent, after_sending, after_refusing, refusal_of, forgotten_on};
+ghost use Rattle.library_api.specs.Sends.{most_bytes, after_sent, after_send_refused, taken_seen, items_since, IsOneItem, IsSendable, LaneIsFull, LeaseIsSpent, IsNotHeld, IsTooLong, IsBadBody, IsLaneFull, IsSendsSpent, SendCause, HasSent, after_sending, after_refusing, refusal_of, forgotten_on};
 
 use crate::ends::Links;
 use crate::library::Library;
@@ -37,8 +37,8 @@ impl Library {
         ensures back { IfErr result (λ e. e.1.items ≡ body.items) }
 
         ensures not_held { IsErrAnd result (λ e. IsNotHeld e.0) ↔ (held self.old s ≡ 0) }
-        ensures too_long { IsErrAnd result (λ e. IsTooLong e.0) ↔ ((0 < held self.old s) × (8192 < length body.items)) }
-        ensures bad_body { IsErrAnd result (λ e. IsBadBody e.0) ↔ ((0 < held self.old s) × (length body.items ≤ 8192) × IsSome (unfit_at body.items)) }
+        ensures too_long { IsErrAnd result (λ e. IsTooLong e.0) ↔ ((0 < held self.old s) × (most_bytes < length body.items)) }
+        ensures bad_body { IsErrAnd result (λ e. IsBadBody e.0) ↔ ((0 < held self.old s) × (length body.items ≤ most_bytes) × IsSome (unfit_at body.items)) }
         ensures lane_full { IsErrAnd result (λ e. IsLaneFull e.0) ↔ (IsSendable self.old s body.items × LaneIsFull self.old s (taken_seen self.new s)) }
         ensures sends_spent { IsErrAnd result (λ e. IsSendsSpent e.0) ↔ (IsSendable self.old s body.items × (LaneIsFull self.old s (taken_seen self.new s) → ⊥) × LeaseIsSpent self.old s) }
         ensures cause { IfErr result (λ e. SendCause self.old s body.items (taken_seen self.new s) e.0) }
