@@ -85,7 +85,7 @@ held_seated k s some = held_if (reading_at k s).lease (held_lease (session_at k 
 seated : (k : Known) (s : ℕ) → 0 < held k s → 0 < held_lease (session_at k s).leases
 seated k s some = subst (λ (n : ℕ). 0 < n) (held_seated k s some) some
 
-within : (k : Known) (s : ℕ) → 0 < held k s → s < length k.ends.seat.knows.sessions
+pub within : (k : Known) (s : ℕ) → 0 < held k s → s < length k.ends.seat.knows.sessions
 within k s some = elim (cases_lt s (length k.ends.seat.knows.sessions)) [
   | inl here ↦ here
   | inr past ↦ absurd (let none : 0 < held_lease (no_library_session).leases = subst (λ (ls : LibrarySession). 0 < held_lease ls.leases) (get_or_past k.ends.seat.knows.sessions s no_library_session past) (seated k s some) in omega arith)

@@ -17,7 +17,7 @@ no_yes : false ≡ true → ⊥
 no_yes e = cc
 
 -- what is answered on a message of a lease that is held, by whether its position is published
-abbrev held_event : Message → Bool → Bool → Found → Event
+abbrev pub held_event : Message → Bool → Bool → Found → Event
 held_event m early shown found =
     if early then events.NotYet m.s m.pos found.published
     else (if shown then events.Message m.s m.lease m.pos m.bytes

@@ -1,4 +1,11 @@
 mod Records
+mod Unmoved
+mod Replies
+mod Posts
+mod Moves
+mod TakenMoves
+mod Seated
+mod Gapless
 mod Deeds
 mod EventCauses
 mod Numbered

@@ -65,6 +65,9 @@ on_poll k o =
 pub poll_closes : (k : Known) (o : Polled) → (after_poll k o).unanswered ≡ closes (taken_up k.kept o.popped) k.unanswered
 poll_closes k o = ap (λ (r : Requests). r.open_is) (on_poll k o)
 
+pub poll_asks_none : (k : Known) (o : Polled) → (after_poll k o).asked ≡ k.asked
+poll_asks_none k o = ap (λ (r : Requests). r.asked) (on_poll k o)
+
 numbers_push : (xs : List Command) (nr s from : ℕ) → numbers_in (xs ++ commands.Request nr s from ∷ []) ≡ numbers_in xs ++ nr ∷ []
 numbers_push [] nr s from = refl
 numbers_push (commands.Request n t f ∷ xs) nr s from = ap (λ (ns : List ℕ). n ∷ ns) (numbers_push xs nr s from)
@@ -98,9 +101,9 @@ numbered_poll k o are =
     }
 
 numbered_call : (k : Known) (c : Call) → IsLawful k c → AreNumbered k → AreNumbered (after_call k c)
-numbered_call k (asks s from taken (Ok nr)) next are = record {
+numbered_call k (asks s from taken (Ok nr)) lawful are = record {
   numbers = numbers_push k.ends.tail.pushed nr s from ∙ ap (λ (ns : List ℕ). ns ++ nr ∷ []) are.numbers
-      ∙ subst (λ (m : ℕ). numbers_to k.asked ++ m ∷ [] ≡ numbers_to m) (sym next) (rw add-one refl);
+      ∙ subst (λ (m : ℕ). numbers_to k.asked ++ m ∷ [] ≡ numbers_to m) (sym lawful.0) (rw add-one refl);
   last = λ n e. same_number nr n e;
 }
 numbered_call k (asks s from taken (Err (asking.Outstanding nr))) lawful are = record { numbers = are.numbers; last = are.last }

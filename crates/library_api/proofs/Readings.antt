@@ -16,7 +16,7 @@ use Rattle.library_api.specs.Calls.{reading_by}
 use Rattle.library_api.proofs.TakenUp.{event_at}
 
 -- the reading of a session once that of one was changed
-set_at : (xs : List Reading) (t s : ℕ) (r d : Reading) → s < length xs → get_or (set xs t r) s d ≡ (if t == s then r else get_or xs s d)
+pub set_at : (xs : List Reading) (t s : ℕ) (r d : Reading) → s < length xs → get_or (set xs t r) s d ≡ (if t == s then r else get_or xs s d)
 set_at xs t s r d within = elim (ℕ_discrete s t) [
   | yes here ↦ subst (λ (j : ℕ). get_or (set xs j r) s d ≡ (if j == s then r else get_or xs s d)) here
       (get_or-set_same xs s r d within ∙ ap (λ (b : Bool). if b then r else get_or xs s d) (sym (eq-eqb s s refl)))

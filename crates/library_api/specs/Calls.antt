@@ -1,5 +1,5 @@
 -- The calls of one library in order, and what it did by them.
-use Rattle.std.specs.Prelude.{◌≡◌, ℕ, zero, suc, ◌+◌, ◌<◌, ◌==◌, if◌then◌else◌, Bool, List, [], ◌∷◌, ◌++◌, Option, Some, None, Result}
+use Rattle.std.specs.Prelude.{◌≡◌, ◌↔◌, ℕ, zero, suc, ◌+◌, ◌<◌, ◌==◌, if◌then◌else◌, Bool, List, [], ◌∷◌, ◌++◌, Option, Some, None, IsSome, option_to_list, Result}
 use Rattle.lease_core.specs.declared.lease.Ending.{Ending}
 use Rattle.lease_core.specs.declared.lease.Ending.TheVariants.{Running, GivenBack, TakenBack}
 use Rattle.lease_core.specs.declared.messages.Command.{Command}
@@ -12,6 +12,7 @@ use Rattle.ring_links.specs.declared.queue.Full.{Full}
 use Rattle.library_api.specs.declared.event.Event.{Event}
 use Rattle.library_api.specs.declared.event.Event.TheVariants as events
 use Rattle.library_api.specs.declared.reading.Reading.{Reading}
+use Rattle.library_api.specs.declared.reading.Message.{Message}
 use Rattle.library_api.specs.declared.refusal.AskError.{AskError}
 use Rattle.library_api.specs.declared.refusal.SendRefusal.{SendRefusal}
 use Rattle.library_api.specs.declared.refusal.ReleaseRefusal.{ReleaseRefusal}
@@ -19,8 +20,8 @@ use Rattle.library_api.specs.declared.refusal.HandRefusal.{HandRefusal}
 use Rattle.library_api.specs.declared.waited.WaitKind.TheVariants.{Free}
 use Rattle.library_api.specs.Ends.{EndsView, seat_after_beat}
 use Rattle.library_api.specs.Known.{Known, no_reading, held, sends_made, with_seat, after_waiting}
-use Rattle.library_api.specs.Requests.{after_request, after_done, CarriesAsked}
-use Rattle.library_api.specs.Polls.{Polled, after_poll}
+use Rattle.library_api.specs.Requests.{after_request, after_done, CarriesAsked, IsOutstanding}
+use Rattle.library_api.specs.Polls.{Polled, event_of, after_poll, OnHolding, HasHold}
 use Rattle.library_api.specs.Sends.{after_sent, after_send_refused, IsOneItem}
 use Rattle.library_api.specs.Releases.{after_giving_back, after_release_refused, after_hand_refused}
 use Rattle.lease_words.specs.Views.{library_at}
@@ -60,8 +61,8 @@ pub record HasMet (e e' : EndsView) : Type 0 where
 
 -- what the clauses of a call say of it besides
 abbrev pub IsLawful : Known → Call → Type 0
-IsLawful k (asks s from taken answer) = CarriesAsked k taken answer
-IsLawful k (polls o) = Unit {0}
+IsLawful k (asks s from taken answer) = CarriesAsked k taken answer × (IsOutstanding answer ↔ IsSome k.unanswered)
+IsLawful k (polls o) = OnHolding (event_of k o) (HasHold (after_poll k o))
 IsLawful k (sends s taken body items) = (0 < held k s) × IsOneItem (held k s) body items
 IsLawful k (send_refused s taken why) = Unit {0}
 IsLawful k (gives_back s heir owner) = 0 < held k s
@@ -78,6 +79,27 @@ after_calls k (c ∷ cs) = after_calls (after_call k c) cs
 abbrev pub AreLawful : Known → List Call → Type 0
 AreLawful k [] = Unit {0}
 AreLawful k (c ∷ cs) = IsLawful k c × AreLawful (after_call k c) cs
+
+-- the notices that a library popped in a call, and in calls: a poll pops none while a message is kept
+abbrev pub popped_beside : Option Message → Option Notice → List Notice
+popped_beside (Some m) popped = []
+popped_beside None popped = option_to_list popped
+
+abbrev pub popped_in : Known → Call → List Notice
+popped_in k (asks s from taken answer) = []
+popped_in k (polls o) = popped_beside k.kept o.popped
+popped_in k (sends s taken body items) = []
+popped_in k (send_refused s taken why) = []
+popped_in k (gives_back s heir owner) = []
+popped_in k (release_refused s why) = []
+popped_in k (hand_refused s why) = []
+popped_in k beats = []
+popped_in k (is_done finished taken answer) = []
+popped_in k (meets ends) = []
+
+abbrev pub popped_of : Known → List Call → List Notice
+popped_of k [] = []
+popped_of k (c ∷ cs) = popped_in k c ++ popped_of (after_call k c) cs
 
 -- What a library did with a session: it sent by a lease, the n-th time, or gave the lease back after so many sends, to an heir or to nobody.
 pub data Deed : Type 0 where

@@ -7,4 +7,7 @@ pub mod Causes
 pub mod Sends
 pub mod Releases
 pub mod Calls
+pub mod Replies
+pub mod Posts
+pub mod Reads
 pub mod Laws

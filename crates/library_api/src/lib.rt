@@ -22,7 +22,10 @@ mod waited;
 
 pub use ends::{LibraryEnds2, Links};
 pub use event::Event;
-pub use laws::{deeds_are_answered, readings_follow_events, requests_are_numbered};
+pub use laws::{
+    deeds_are_answered, posts_are_sent, readings_follow_events, reads_have_no_gap,
+    replies_close_requests, requests_are_numbered,
+};
 pub use library::Library;
 pub use refusal::{AskError, HandRefusal, ReleaseRefusal, Released, SendRefusal};
 pub use waited::{WaitKind, Waited};
