@@ -1,37 +1,25 @@
 -- The messages of a lease that are handed on have no gap.
-use Rattle.std.proofs.Common.{◌≡◌, ◌≢◌, ℕ, suc, ◌+◌, ◌<◌, ◌⊎◌, ◌==◌, List, [], ◌∷◌, ◌++◌, length, get_or, set, length-set, Bool, true, false, ◌&&◌, nat_le, nat_lt, if◌then◌else◌, refl, sym, ap, ◌∙◌, subst, inl, inr, ⊎_elim, arith, eq-eqb, ne_eqb}
-use Rattle.std.specs.Prelude.{Option, Some, None, Ok, Err, option_to_list}
-use Rattle.std.proofs.lemmas.Bool.{eqb-true, eqb-false}
-use Rattle.std.proofs.lemmas.List.{get_or-set_other}
+use Rattle.std.proofs.Common.{◌≡◌, ◌≢◌, ℕ, ◌+◌, ◌<◌, ◌==◌, List, [], ◌∷◌, ◌++◌, length, length-set, Bool, true, false, if◌then◌else◌, refl, sym, ap, ◌∙◌, subst, ⊎_elim}
+use Rattle.std.specs.Prelude.{Option, Some, None, Ok, Err}
 use Rattle.lease_core.specs.declared.messages.Notice.{Notice}
-use Rattle.lease_core.specs.declared.messages.Notice.TheVariants as notices
-use Rattle.lease_core.specs.declared.word.Word.{Word}
 use Rattle.lease_words.specs.declared.view.LibraryLease.{LibraryLease}
-use Rattle.lease_words.specs.declared.view.LibrarySession.{LibrarySession}
-use Rattle.lease_words.specs.Leases.{held_lease, with_one_send}
-use Rattle.lease_words.specs.Views.{LibraryView, no_library_session, library_at, with_library_at}
-use Rattle.lease_words.specs.Sees.{after_see, after_arrival, after_taken_load, after_send, after_release, after_loss}
+use Rattle.lease_words.specs.Leases.{held_lease}
+use Rattle.lease_words.specs.Sees.{after_taken_load, after_send, after_release, after_loss}
 use Rattle.lease_words.specs.Answers.{active_word, released_word}
-use Rattle.library_api.specs.declared.event.Event.{Event}
-use Rattle.library_api.specs.declared.event.Event.TheVariants as events
 use Rattle.library_api.specs.declared.reading.Message.{Message}
 use Rattle.library_api.specs.declared.reading.Reading.{Reading}
-use Rattle.library_api.specs.declared.waited.WaitKind.{WaitKind}
 use Rattle.library_api.specs.declared.refusal.SendRefusal.TheVariants as sending
 use Rattle.library_api.specs.declared.refusal.ReleaseRefusal.TheVariants as releasing
 use Rattle.library_api.specs.declared.refusal.HandRefusal.TheVariants as handing
 use Rattle.library_api.specs.declared.refusal.AskError.TheVariants as asking
-use Rattle.library_api.specs.Ends.{seat_after_beat, seat_after_see, seat_after_arrival}
-use Rattle.library_api.specs.Known.{Known, no_reading, reading_count, reading_at, lease_in, held, holds, sends_made, session_at, with_seat, with_reading, without_reading}
-use Rattle.library_api.specs.Polls.{Found, Polled, shows, saw_word, saw_published, with_none_kept, with_request_closed, after_pop, after_taking_up, after_grant, after_published, after_message, after_notice, after_poll, taken_up, notice_of, message_event, notice_event, event_of, OnHolding, HasHold}
-use Rattle.library_api.specs.Sends.{with_session_known}
-use Rattle.library_api.specs.Calls.{Call, asks, polls, sends, send_refused, gives_back, release_refused, hand_refused, beats, is_done, meets, after_call, after_calls, IsLawful, AreLawful, popped_beside, popped_of, reading_by}
-use Rattle.library_api.specs.Reads.{is_of, concerns, next_after, ComesNext, AreInOrder, start_of, granted_from, first_position, numbers_from, read_by, reads_in, reads_of, kept_notice, notices_of, IsAt, IsSeated}
-use Rattle.library_api.proofs.Unmoved.{Unmoved, on_poll, changed, saw_if}
-use Rattle.library_api.proofs.EventCauses.{held_event}
-use Rattle.library_api.proofs.TakenUp.{event_at}
+use Rattle.library_api.specs.Ends.{seat_after_beat}
+use Rattle.library_api.specs.Known.{Known, no_reading, reading_count, reading_at, held, sends_made, session_at, with_seat}
+use Rattle.library_api.specs.Polls.{Polled, with_none_kept, after_pop, after_poll, event_of}
+use Rattle.library_api.specs.Calls.{Call, asks, polls, sends, send_refused, gives_back, release_refused, hand_refused, beats, is_done, meets, after_call, IsLawful, AreLawful}
+use Rattle.library_api.specs.Reads.{concerns, next_after, AreInOrder, granted_from, first_position, numbers_from, reads_in, reads_of, notices_of, IsAt, IsSeated}
+use Rattle.library_api.proofs.Unmoved.{Unmoved, on_poll}
 use Rattle.library_api.proofs.Readings.{set_at, follow}
-use Rattle.library_api.proofs.Moves.{Move, stays, loses, passes, grants, goes_on, skips, OnCourse, over_move, read_move, wait_move}
+use Rattle.library_api.proofs.Moves.{Move, stays, loses, OnCourse, over_move, read_move, wait_move}
 use Rattle.library_api.proofs.TakenMoves.{poll_moves, was_lost}
 use Rattle.library_api.proofs.Seated.{leases_at, poll_leases, both_same, event_seated, forgotten_seated, known_seated, one_send}
 
@@ -205,3 +193,7 @@ pub gapless : (s lease : ℕ) (next : Option ℕ) (k : Known) (calls : List Call
     → reads_of s lease k calls ≡ numbers_from (first_position s lease next (notices_of k calls)) (length (reads_of s lease k calls))
 gapless s lease None k calls some within records lawful seated at order = ungranted s lease k calls some (record { within = within; records = records; seated = seated }) lawful at order
 gapless s lease (Some next) k calls some within records lawful seated at order = read s lease next k calls some (record { within = within; records = records; seated = seated }) lawful at order
+
+pub beginning : (s lease : ℕ) (next : Option ℕ) (popped told : List Notice) → AreInOrder s lease next (popped ++ told) → AreInOrder s lease next popped
+beginning s lease next [] told order = tt
+beginning s lease next (n ∷ ns) told order = (order.0, beginning s lease (next_after (concerns s lease n) next n) ns told order.1)

@@ -1,12 +1,11 @@
 -- What a library posted is what its calls answered.
-use Rattle.std.proofs.Common.{◌≡◌, ℕ, ◌+◌, ◌<◌, ◌==◌, List, [], ◌∷◌, ◌++◌, length, get_or, set, nat_lt, refl, sym, ap, ◌∙◌, append_assoc}
+use Rattle.std.proofs.Common.{◌≡◌, ℕ, ◌+◌, List, [], ◌∷◌, ◌++◌, get_or, set, nat_lt, refl, sym, ap, ◌∙◌, append_assoc}
 use Rattle.std.specs.Prelude.{Option, Some, None, Ok, Err}
 use Rattle.lease_words.specs.declared.item.Item.{Item}
 use Rattle.lease_words.specs.declared.view.LibrarySession.{LibrarySession}
 use Rattle.lease_words.specs.Views.{no_library_session, library_at}
 use Rattle.lease_words.specs.Sees.{after_see, after_arrival, after_taken_load, after_send, after_release, after_loss}
 use Rattle.lease_words.specs.Answers.{active_word, released_word}
-use Rattle.lease_core.specs.declared.word.Word.{Word}
 use Rattle.library_api.specs.declared.refusal.SendRefusal.TheVariants as sending
 use Rattle.library_api.specs.declared.refusal.ReleaseRefusal.TheVariants as releasing
 use Rattle.library_api.specs.declared.refusal.HandRefusal.TheVariants as handing
@@ -15,7 +14,7 @@ use Rattle.library_api.specs.declared.reading.Message.{Message}
 use Rattle.lease_core.specs.declared.messages.Notice.{Notice}
 use Rattle.library_api.specs.Ends.{seat_after_beat}
 use Rattle.library_api.specs.Known.{Known, held, sends_made, session_at, with_seat}
-use Rattle.library_api.specs.Polls.{Polled, saw_word, saw_published, with_none_kept, after_pop, after_poll}
+use Rattle.library_api.specs.Polls.{with_none_kept, after_pop, after_poll}
 use Rattle.library_api.specs.Sends.{IsOneItem}
 use Rattle.library_api.specs.Calls.{Call, asks, polls, sends, send_refused, gives_back, release_refused, hand_refused, beats, is_done, meets, after_call, after_calls, IsLawful, AreLawful}
 use Rattle.library_api.specs.Posts.{Post, posts_by, posts_in, posts_of}

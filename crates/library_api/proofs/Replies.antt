@@ -1,6 +1,6 @@
 -- What a library popped, and the replies among it.
 use Rattle.std.proofs.Common.{◌≡◌, ℕ, ◌+◌, ◌≤◌, ◌⊎◌, List, [], ◌∷◌, ◌++◌, length, refl, sym, ap, ◌∙◌, subst, inl, inr, ⊎_elim, arith, rules, length-append, append_assoc, add-one}
-use Rattle.std.specs.Prelude.{◌↔◌, Option, Some, None, Ok, Err, IsSome}
+use Rattle.std.specs.Prelude.{Option, Some, None, Ok, Err, IsSome}
 use Rattle.lease_core.specs.declared.messages.Notice.{Notice}
 use Rattle.lease_core.specs.declared.messages.Notice.TheVariants as notices
 use Rattle.library_api.specs.declared.refusal.SendRefusal.TheVariants as sending
@@ -10,7 +10,7 @@ use Rattle.library_api.specs.declared.refusal.AskError.TheVariants as asking
 use Rattle.library_api.specs.declared.reading.Message.{Message}
 use Rattle.library_api.specs.Ends.{seat_after_beat}
 use Rattle.library_api.specs.Known.{Known, with_seat}
-use Rattle.library_api.specs.Polls.{Polled, with_none_kept, after_pop, after_taking_up, after_poll, taken_up}
+use Rattle.library_api.specs.Polls.{Polled, with_none_kept, after_pop, after_poll, taken_up}
 use Rattle.library_api.specs.Calls.{Call, asks, polls, sends, send_refused, gives_back, release_refused, hand_refused, beats, is_done, meets, after_call, after_calls, IsLawful, AreLawful, popped_beside, popped_in, popped_of, numbers_to, closes}
 use Rattle.library_api.specs.Replies.{replies_in, reply_count, AreReplies, HoldsThroughout, IsRepliedTo, OnReply}
 use Rattle.library_api.proofs.Unmoved.{Unmoved, on_poll, append_none}

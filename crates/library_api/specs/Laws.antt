@@ -1,5 +1,6 @@
 -- What holds over any list of calls of one library.
 use Rattle.std.specs.Prelude.{◌≡◌, ℕ, ◌<◌, List, ◌++◌, length, Option, Some}
+use Rattle.lease_core.specs.declared.messages.Notice.{Notice}
 use Rattle.library_api.specs.Known.{Known, reading_count, reading_at, session_at}
 use Rattle.library_api.specs.Polls.{Polled, event_of, after_poll, taken_up}
 use Rattle.library_api.specs.Calls.{Call, after_calls, AreLawful, AreNumbered, deeds_by, deeds_of, popped_of, closes, reading_by}
@@ -46,3 +47,7 @@ abbrev pub ReadsHaveNoGap : Type 0
 ReadsHaveNoGap = (s lease : ℕ) (next : Option ℕ) (k : Known) (calls : List Call) → 0 < lease → s < reading_count → length k.readings ≡ reading_count
     → AreLawful k calls → IsSeated s k → IsAt s lease next k → AreInOrder s lease next (notices_of k calls)
     → reads_of s lease k calls ≡ numbers_from (first_position s lease next (notices_of k calls)) (length (reads_of s lease k calls))
+
+-- What begins a list of notices in which a lease's are in order has them in order too, as what was popped begins what was pushed.
+abbrev pub BeginningsAreInOrder : Type 0
+BeginningsAreInOrder = (s lease : ℕ) (next : Option ℕ) (popped told : List Notice) → AreInOrder s lease next (popped ++ told) → AreInOrder s lease next popped

@@ -1,6 +1,6 @@
 //! What holds over any list of calls of one library, each law as the clause of a function that
 //! does nothing.
-ghost use Rattle.library_api.specs.Laws.{DeedsAreAnswered, PostsAreSent, RequestsAreNumbered, PollsCloseRequests, PollsPop, RepliesCloseRequests, RepliesAreOfTheOpen, ReadingsFollowEvents, ReadsHaveNoGap};
+ghost use Rattle.library_api.specs.Laws.{DeedsAreAnswered, PostsAreSent, RequestsAreNumbered, PollsCloseRequests, PollsPop, RepliesCloseRequests, RepliesAreOfTheOpen, ReadingsFollowEvents, ReadsHaveNoGap, BeginningsAreInOrder};
 
 /// What a library's seat knows that it sent and gave back is, session by session and in order,
 /// what its calls answered: by which lease, the number of the send, the count and the heir.
@@ -38,5 +38,6 @@ pub fn readings_follow_events()
 /// The messages of a lease that a library's polls hand on have the positions from its grant's on,
 /// in order and without a gap, where the lease's grant and messages are in order among the notices.
 pub fn reads_have_no_gap()
-    ensures { ReadsHaveNoGap }
+    ensures reads { ReadsHaveNoGap }
+    ensures beginnings { BeginningsAreInOrder }
 {}
