@@ -207,8 +207,11 @@ fn run_engine(leases: &Leases, mut engine: EngineSeat, mut taker: Taker) -> (Eng
         if engine_step(leases, &mut engine, &mut taker, s).is_none() {
             break;
         }
-        if taker.draw.below(16) == 0 && have_ended(leases, &mut engine) {
-            break;
+        if taker.draw.below(16) == 0 {
+            if have_ended(leases, &mut engine) {
+                break;
+            }
+            thread::yield_now();
         }
     }
     (engine, taker)
