@@ -1,5 +1,5 @@
 -- What holds of every session holds at first, and behind each call.
-use Rattle.std.proofs.Common.{◌≡◌, ℕ, ◌+◌, ◌≤◌, Bool, true, false, List, [], ◌∷◌, ◌++◌, ap, sym, ◌∙◌, subst, refl, arith, if◌then◌else◌}
+use Rattle.std.proofs.Common.{◌≡◌, ◌≢◌, ℕ, ◌+◌, ◌≤◌, Bool, true, false, List, [], ◌∷◌, ◌++◌, ap, sym, ◌∙◌, subst, refl, arith, if◌then◌else◌}
 use Rattle.std.specs.Prelude.{Option, None, Some, IfSome, IsNone, Result, Ok, Err, codes, nat_lt, ◌==◌, not, ◌||◌, drop}
 use Rattle.std.specs.FinMap.{get, empty_of_len}
 use Rattle.std.specs.List.{All, list_any}
@@ -320,11 +320,29 @@ module _ (laws : LineLaws) where
   pub acts_of_messages : ActsOfMessages
   acts_of_messages state body m is = (lawful_outcome state body is).acts
 
+  -- what the answer to the session's own Logon asks for
+  replies_number : (line : Line Task) (heart n : ℕ) → IsLine line → HoldsTasks line → IsNumber n → All IsReply (outcome_of_answer line heart n).effects.acts
+  unfolding outcome_of_answer
+  replies_number line heart n is tasks number =
+      let start : IsGood (All IsReply) (record { line = line; acts = [] }) = record { line = is; tasks = tasks; acts = All-nil IsReply } in
+      let good = good-handled laws (All IsReply) replies_grow (record { line = line; acts = [] }) n Nothing start number tt in
+      either (nat_lt n line.expected) _ _ (λ (o : Outcome). All IsReply o.effects.acts)
+      (one IsReply _ (low_logout_is line.expected n is.to_end number.to_largest))
+      good.acts
+
+  replies_asked : (state : State) (heart : ℕ) (answer : Result ℕ Cause) → IsState state → ((n : ℕ) → answer ≡ Ok n → IsNumber n) → All IsReply (outcome_asked state heart answer).effects.acts
+  replies_asked state heart (Ok n) is number = replies_number state.line heart n is.line is.tasks (number n refl)
+  replies_asked state heart (Err cause) is number = All-nil IsReply
+
+  replies_in : (phase : Phase) (state : State) (body : List ℕ) (fields : Option (List Field)) → IsState state → state.phase ≡ phase → phase ≢ Off → All IsReply (outcome_in phase state body fields).effects.acts
+  replies_in Off state body fields is off other = absurd (other refl)
+  replies_in (Asked heart) state body fields is asked other = replies_asked state heart (answer_in state.names heart fields) is (answer_number state.names heart fields)
+  replies_in (On heart) state body fields is on other =
+      (lawful_step state body (step_in state.names state.line.expected fields) heart is on (λ step found. step_in_is state.names state.line.expected fields step is.line.to_end found)).1
+
   pub only_logons_reset : OnlyLogonsReset
   unfolding outcome
-  only_logons_reset state body m heart is on =
-      subst (λ (phase : Phase). All IsReply (outcome_in phase state body (result_ok (fields_of body))).effects.acts) (sym on)
-      (lawful_step state body (step_in state.names state.line.expected (result_ok (fields_of body))) heart is on (λ step found. step_in_is state.names state.line.expected (result_ok (fields_of body)) step is.line.to_end found)).1
+  only_logons_reset state body m is other = replies_in state.phase state body (result_ok (fields_of body)) is refl other
 
   after_is : (state : State) (o : Outcome) (m : ℕ) → IsState state → IsLawful o → m ≤ LAST_MOMENT → IsState (after_outcome state o m)
   after_is state o m is lawful within =

@@ -1,5 +1,5 @@
 -- Laws of the definitions, each proved as the clause of a function of `laws`.
-use Rattle.std.specs.Prelude.{◌≡◌, ℕ, ◌+◌, ◌≤◌, ◌⊎◌, false, IsNone, IfSome, List, ◌++◌, drop, Option, Some}
+use Rattle.std.specs.Prelude.{◌≡◌, ◌≢◌, ℕ, ◌+◌, ◌≤◌, ◌⊎◌, false, IsNone, IfSome, List, ◌++◌, drop, Option, Some}
 use Rattle.std.specs.FinMap.{get, len}
 use Rattle.std.specs.List.{All}
 use Rattle.gate_io.specs.declared.clocks.TheConstants.{LAST_MOMENT}
@@ -48,7 +48,7 @@ ActsOfMessages =
 -- only the Logon that binds asks for a reset
 abbrev pub OnlyLogonsReset : Type 0
 OnlyLogonsReset =
-    (state : State) (body : List ℕ) (m heart : ℕ) → IsState state → state.phase ≡ On heart
+    (state : State) (body : List ℕ) (m : ℕ) → IsState state → state.phase ≢ Off
     → All IsReply (receive state body m).acts
 
 -- two states that are the same but for moments

@@ -50,7 +50,7 @@ is_reset_act (Send admin) = false
 is_reset_act (Resend begin last) = false
 is_reset_act Reset = true
 
--- an act that follows from a message on a session whose Logon was answered
+-- an act that follows from a message on a session that asked for a Logon or answered one
 pub record IsReply (act : Act) : Type 0 where
   pub short : SendsShortTexts act
   pub no_tick : is_tick_act act ≡ false

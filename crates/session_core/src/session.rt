@@ -1,6 +1,6 @@
 //! A session, which is bound by a connection that comes or by one that it dials itself.
 
-ghost use Rattle.std.specs.Prelude.{◌≡◌, ℕ, ◌+◌, ◌≤◌, nat_le, nat_lt, true, IsSome, IsNone, IsOk, [], ◌∷◌, if◌then◌else◌, None, Some, IfOk, IfSome, IfNone, OnOk, OnErr};
+ghost use Rattle.std.specs.Prelude.{◌≡◌, ◌≢◌, ℕ, ◌+◌, ◌≤◌, nat_le, nat_lt, true, IsSome, IsNone, IsOk, [], ◌∷◌, if◌then◌else◌, None, Some, IfOk, IfSome, IfNone, OnOk, OnErr};
 ghost use Rattle.std.specs.List.{All, list_any};
 ghost use Rattle.seq_gaps.specs.Line.{IsLine, fresh_line, after_fill};
 ghost use Rattle.session_core.specs.Ask.{ask, after_ask};
@@ -196,7 +196,7 @@ impl Session {
         // The texts that are sent are within their bounds, and what the clock sends isn't among them.
         // A reset comes first, and only with the Logon that binds.
         ensures acts { IfOk result (λ effects. AreActs effects.acts) }
-        ensures replies { IfOk result (λ effects. self.old.phase ≡ Phase.On (heart_in self.old.phase) → All IsReply effects.acts) }
+        ensures replies { IfOk result (λ effects. self.old.phase ≢ Phase.Off → All IsReply effects.acts) }
     {
         line_laws();
         match self.phase {

@@ -1,4 +1,4 @@
-use Rattle.std.proofs.Common.{subst, sym}
+use Rattle.std.proofs.Common.{rules, subst, sym}
 use Rattle.std.proofs.lemmas.Result.{IfOk-weaker}
 use Rattle.std.specs.List.{All}
 use Rattle.session_core.specs.Laws.{AreActs}
@@ -23,7 +23,16 @@ returns-in-On-clause-acts c =
     let is = subst IsState c.self.view_is c.self.invariant in
     IfOk-weaker c.receive_next.result _ _ (λ effects same. subst (λ (e : Effects). AreActs e.acts) (sym same) (acts_of_messages c.line_laws.ensures _ _ c.args.moment is)) c.receive_next.ensures.effects
 
+pub returns-in-Off-clause-replies : goal.returns-in-Off-clause-replies
+returns-in-Off-clause-replies c =
+    IfOk-weaker c.receive_first.result _ _ (λ effects same other. absurd (other (search rules))) c.receive_first.ensures.effects
+
+pub returns-in-Asked-clause-replies : goal.returns-in-Asked-clause-replies
+returns-in-Asked-clause-replies c =
+    let is = subst IsState c.self.view_is c.self.invariant in
+    IfOk-weaker c.receive_answer.result _ _ (λ effects same other. subst (λ (e : Effects). All IsReply e.acts) (sym same) (only_logons_reset c.line_laws.ensures _ _ c.args.moment is other)) c.receive_answer.ensures.effects
+
 pub returns-in-On-clause-replies : goal.returns-in-On-clause-replies
 returns-in-On-clause-replies c =
     let is = subst IsState c.self.view_is c.self.invariant in
-    IfOk-weaker c.receive_next.result _ _ (λ effects same on. subst (λ (e : Effects). All IsReply e.acts) (sym same) (only_logons_reset c.line_laws.ensures _ _ c.args.moment _ is on)) c.receive_next.ensures.effects
+    IfOk-weaker c.receive_next.result _ _ (λ effects same other. subst (λ (e : Effects). All IsReply e.acts) (sym same) (only_logons_reset c.line_laws.ensures _ _ c.args.moment is other)) c.receive_next.ensures.effects
