@@ -11,3 +11,4 @@ pub mod Prefixes
 pub mod Rises
 pub mod StepFacts
 pub mod States
+pub mod PhaseFacts

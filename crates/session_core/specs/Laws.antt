@@ -1,5 +1,5 @@
 -- Laws of the definitions, each proved as the clause of a function of `laws`.
-use Rattle.std.specs.Prelude.{◌≡◌, ◌≢◌, ℕ, ◌+◌, ◌≤◌, ◌⊎◌, false, IsNone, IfSome, List, ◌++◌, drop, Option, Some}
+use Rattle.std.specs.Prelude.{◌≡◌, ◌≢◌, ℕ, ◌+◌, ◌≤◌, ◌⊎◌, true, false, None, IsNone, IfSome, List, ◌++◌, drop, Option, Some}
 use Rattle.std.specs.FinMap.{get, len}
 use Rattle.std.specs.List.{All}
 use Rattle.gate_io.specs.declared.clocks.TheConstants.{LAST_MOMENT}
@@ -8,7 +8,7 @@ use Rattle.seq_gaps.specs.declared.offered.TheConstants.{HELD_LIMIT, MAX_NUMBER}
 use Rattle.session_core.specs.Ask.{after_ask}
 use Rattle.session_core.specs.Carry.{Progress, after_carrying, after_draining, after_handling}
 use Rattle.session_core.specs.Receive.{receive, after_receive}
-use Rattle.session_core.specs.Runs.{behind_all, acts_on, acts_of, after_connections, until_end, handled_bodies, NoneEnds, LastEnds, Event, after_events, acts_in, bodies_in, SameButMoments}
+use Rattle.session_core.specs.Runs.{binds, behind_all, acts_on, acts_of, after_connections, until_end, handled_bodies, NoneEnds, LastEnds, Event, after_events, acts_in, bodies_in, SameButMoments}
 use Rattle.session_core.specs.State.{State, IsState, IsDialHeart, new_state, after_leave}
 use Rattle.session_core.specs.Tasks.{IsReply, SendsShortTexts, is_tick_act, is_reset_act}
 use Rattle.session_core.specs.Tick.{after_tick}
@@ -50,6 +50,14 @@ abbrev pub OnlyLogonsReset : Type 0
 OnlyLogonsReset =
     (state : State) (body : List ℕ) (m : ℕ) → IsState state → state.phase ≢ Off
     → All IsReply (receive state body m).acts
+
+-- in which phase a message leaves a session
+pub record PhasesFollow : Type 0 where
+  -- one that asked for a Logon, or answered one, stays so until its connection ended
+  pub stays_on : (state : State) (body : List ℕ) (m : ℕ) → state.phase ≢ Off → (after_receive state body m).phase ≢ Off
+  -- the Logon that binds a session is answered, unless it ends the connection
+  pub binds : (names : List Names) (state : State) (body : List ℕ) (m : ℕ) → state.phase ≡ Off → state.dials ≡ None → binds names body ≡ true
+      → IsNone (receive state body m).end → (after_receive state body m).phase ≢ Off
 
 -- two states that are the same but for moments
 pub record SamenessLaws : Type 0 where

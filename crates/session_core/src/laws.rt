@@ -1,6 +1,6 @@
 //! Laws of the definitions that the contracts of this crate cite. The functions do nothing.
 
-ghost use Rattle.session_core.specs.Laws.{StatesStayLawful, ExpectedIsCarriedOut, ActsOfMessages, OnlyLogonsReset, SamenessLaws, MomentsDontMatter, RunsFollowBodies, RunsInParts, HandledInParts, LeavesNoneReady, NumbersGoForward, RisesByWhatIsHeld, HandlesWhatCameFirst};
+ghost use Rattle.session_core.specs.Laws.{StatesStayLawful, ExpectedIsCarriedOut, ActsOfMessages, OnlyLogonsReset, PhasesFollow, SamenessLaws, MomentsDontMatter, RunsFollowBodies, RunsInParts, HandledInParts, LeavesNoneReady, NumbersGoForward, RisesByWhatIsHeld, HandlesWhatCameFirst};
 ghost use Rattle.session_core.specs.Lines.{LineLaws};
 
 use crate::tasks::Task;
@@ -35,6 +35,12 @@ pub fn only_logons_reset()
 {
     line_laws();
 }
+
+/// A session whose connection stands isn't off: the Logon that binds it is answered, unless it ends the
+/// connection, and no message that comes later turns it off.
+pub fn phases_follow()
+    ensures { PhasesFollow }
+{}
 
 /// To be the same but for moments is an equivalence, and each call keeps it.
 pub fn sameness_laws()
