@@ -11,6 +11,8 @@ use std::alloc::Global;
 use std::test::Fail;
 
 mod relay;
+mod resumed;
+mod settled;
 
 const FIRST: &[u8] = b"35=8\x0137=1\x01";
 
