@@ -1,0 +1,12 @@
+pub mod Fronts
+pub mod Heads
+pub mod Images
+pub mod Kept
+pub mod Likes
+pub mod Moments
+pub mod Once
+pub mod Rests
+pub mod Runs
+pub mod Sessions
+pub mod Steps
+pub mod Wholes
