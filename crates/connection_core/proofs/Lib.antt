@@ -1,0 +1,5 @@
+pub mod Texts
+pub mod Queue
+pub mod Written
+pub mod Making
+pub mod Pieces

@@ -1,0 +1,5 @@
+pub mod Outgoing
+pub mod Items
+pub mod Connection
+pub mod Owned
+pub mod Record
