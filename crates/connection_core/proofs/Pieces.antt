@@ -1,8 +1,8 @@
--- What is known once a good piece is passed by.
-use Rattle.std.proofs.Common.{◌≡◌, ℕ, List, [], ◌∷◌, ◌++◌, Result, Ok, Err, OnErr, arith, sum_by}
+-- What is known of the pieces that were handed out.
+use Rattle.std.proofs.Common.{◌≡◌, ℕ, List, [], ◌∷◌, ◌++◌, Result, Ok, Err, OnErr, sym, subst, ◌∙◌, arith, sum_by}
 use Rattle.std.proofs.lemmas.List.Sums.{sum_by_push}
 use Rattle.fix_frame.specs.Cut.{CutPiece, good, IsCutSoFar, TakesPiece}
-use Rattle.connection_core.specs.Connection.{ConnectionState, IsPassedBy, garbled_in}
+use Rattle.connection_core.specs.Connection.{ConnectionState, IsGiven, IsPassedBy, garbled_in}
 
 -- what holds anyway holds where the result is an error
 pub on_err : {A E : Type 0} (r : Result A E) (P : Type 0) → P → OnErr r P
@@ -21,3 +21,9 @@ passed_by state body left takes goes_on =
           let counted : state.garbled ≡ sum_by garbled_in (pieces ++ good body ∷ []) = omega (arith, h.counted, sum_by_push garbled_in pieces (good body)) in
           record { so_far = goes_on pieces h.so_far; counted = counted };
     }
+
+-- they are the same while nothing is taken and nothing is handed out
+pub given_same : (old new : ConnectionState) (pieces : List CutPiece) → IsGiven old pieces → new.taken ≡ old.taken → new.held ≡ old.held → new.garbled ≡ old.garbled → IsGiven new pieces
+given_same old new pieces h taken held garbled =
+    let in_new_text = subst (λ (text : List ℕ). IsCutSoFar 65536 text pieces old.held) (sym taken) h.so_far in
+    record { so_far = subst (λ (bytes : List ℕ). IsCutSoFar 65536 new.taken pieces bytes) (sym held) in_new_text; counted = garbled ∙ h.counted }

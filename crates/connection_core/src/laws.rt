@@ -64,6 +64,9 @@ pub fn pieces_are_those_of_the_cut()
     // Where there is no further piece, all were handed out.
     ensures all { (state : ConnectionState) (pieces : List CutPiece) → IsGiven state pieces → (cut LONGEST_FRAME state.held).pieces ≡ []
         → (cut LONGEST_FRAME state.taken).pieces ≡ pieces }
+    // So it stays while nothing is taken and nothing is handed out.
+    ensures same { (old new : ConnectionState) (pieces : List CutPiece) → IsGiven old pieces → new.taken ≡ old.taken → new.held ≡ old.held
+        → new.garbled ≡ old.garbled → IsGiven new pieces }
     // They begin the pieces of the cut, whatever is taken behind.
     ensures begin { (state : ConnectionState) (pieces : List CutPiece) (more : List ℕ) → IsGiven state pieces
         → take (length pieces) (cut LONGEST_FRAME (state.taken ++ more)).pieces ≡ pieces }
