@@ -1,0 +1,24 @@
+use Rattle.std.proofs.Common.{List, sym, ap, subst, ◌∙◌}
+use Rattle.lease_core.specs.declared.entry.Entry.{Entry}
+use Rattle.session_book.specs.Book.{next_number}
+use Rattle.session_book.specs.Kept.{AreNamesOf}
+use Rattle.session_book.specs.Words.{shown_sends}
+use Rattle.session_book.proofs.Books.{names_sent, phase_sent}
+use Rattle.session_book.proofs.News.{HasMore, fit_sent, more_shown, news_is_book, next_is}
+use Rattle.session_book.proofs.book.SessionBook.show.Goals as goal
+
+pub invariant_of-self : goal.invariant_of-self
+invariant_of-self c =
+    let is = c.self.invariant.0 in
+    let old = c.self.inside.registry.entries in
+    let machine = c.record_sends.ensures.machine in
+    let names = ap (λ m. m.names) machine ∙ names_sent c.args.at _ _ in
+    let more = subst (λ (es : List Entry). HasMore old es) (sym c.show-shown.ensures.entries) (more_shown c.entries_decide_one_by_one.ensures.state c.args.until old c.args.w) in
+    let count = c.show-shown.ensures.sends ∙ ap (λ k. shown_sends k.book.entries c.args.w) c.self.view_is ∙ sym c.requires.bodies in (
+      news_is_book _ _ _ _ _ c.args.at _ _ is (ap (λ m. m.phase) machine ∙ phase_sent c.args.at _ _) names more c.show-shown.ensures.logs count c.record_sends.ensures.series
+          (fit_sent c.logs_stay_fit.ensures.entry c.args.at _ _ c.requires.fit is.fit),
+      subst (λ ns. AreNamesOf ns c.self.inside.names) (sym names) c.self.invariant.1,
+    )
+
+pub returns-clause-first : goal.returns-clause-first
+returns-clause-first c = c.show-shown.ensures.first ∙ next_is _ c.self.invariant.0 ∙ ap (λ k. next_number k.book) c.self.view_is

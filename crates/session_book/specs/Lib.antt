@@ -1,0 +1,4 @@
+pub mod Book
+pub mod Acts
+pub mod Words
+pub mod Kept

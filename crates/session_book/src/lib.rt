@@ -1,0 +1,15 @@
+//! One session as the engine keeps it: the session machine, the journal and the two logs, which go on
+//! together, one event at a time.
+//!
+//! It is handed bodies, words and moments, and queues what is to be written with the connection to
+//! which the session is bound. It knows no table, ring, wire or clock.
+#![tactic(auto)]
+
+mod acts;
+mod book;
+mod leases;
+mod messages;
+mod reads;
+
+pub use book::SessionBook;
+pub use reads::SessionRecord;
