@@ -5,7 +5,7 @@ ghost use Rattle.std.specs.Borrow.{sem};
 ghost use Rattle.fix_frame.specs.Frame.{IsCheckField, number_of};
 ghost use Rattle.fix_frame.specs.Cut.{CutPiece, IsCutSoFar, IsPiece, cut, piece_at, piece_of};
 ghost use Rattle.fix_frame.specs.Look.{IsStretchText};
-ghost use Rattle.fix_frame.specs.Cutting.{free, seen};
+ghost use Rattle.fix_frame.specs.Cutting.{free, lent_piece};
 ghost use Rattle.fix_frame.specs.Loans.{GivesNext};
 
 use crate::layout::{BODY_END, LEAST_LIMIT, LEAST_ROOM, LONGEST_FRAME, TRAILER, checksum};
@@ -90,10 +90,10 @@ impl Cutter {
     /// The next piece of the bytes, or None where more bytes are wanted.
     pub fn next(&mut self) -> Option<Piece<'_>>
         // What stands at the beginning of the bytes that are held.
-        ensures piece { option_map seen result ≡ option_map (λ found. found.piece) (piece_at self.old.limit self.old.held) }
+        ensures piece { option_map lent_piece result ≡ option_map (λ found. found.piece) (piece_at self.old.limit self.old.held) }
         ensures none { IsNone result ↔ ((cut self.old.limit self.old.held).pieces ≡ []) }
         ensures room { IfNone result (LEAST_ROOM ≤ free self.old) }
-        ensures lawful { IfSome result (λ piece. IsPiece self.old.limit (seen piece)) }
+        ensures lawful { IfSome result (λ piece. IsPiece self.old.limit (lent_piece piece)) }
         // The piece has gone, and what was given so far goes on with it; where there is none nothing changed.
         ensures* after_loan { sem 𝓛 (GivesNext self.entry result) }
     {
@@ -122,7 +122,7 @@ impl Cutter {
 /// The piece that a stretch with the form of a frame is, whose body begins at `start`.
 pub(crate) fn piece_of(stretch: &[u8], start: usize) -> Piece<'_>
     requires { (field : List ℕ) × (body : List ℕ) × (digits : List ℕ) × IsStretchText stretch.now start field body digits }
-    ensures { (field body digits : List ℕ) → IsStretchText stretch.now start field body digits → seen result ≡ piece_of field body digits }
+    ensures { (field body digits : List ℕ) → IsStretchText stretch.now start field body digits → lent_piece result ≡ piece_of field body digits }
 {
     let end = stretch.len() - TRAILER;
     let digits = end + BODY_END.len() - 1;
