@@ -6,6 +6,5 @@ pub mod Ring
 pub mod Cutting
 pub mod Inside
 pub mod Loans
-pub mod Owned
 pub mod Rows
 pub mod Printed

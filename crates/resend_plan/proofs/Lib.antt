@@ -1,4 +1,3 @@
-pub mod Places
 pub mod Results
 pub mod Ranges
 pub mod Walk
