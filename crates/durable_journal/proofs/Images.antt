@@ -1,15 +1,14 @@
 -- What the images of a journal's file stand for.
-use Rattle.std.proofs.Common.{◌≡◌, ◌≢◌, ◌⊎◌, inl, inr, ℕ, ◌+◌, ◌<◌, ◌≤◌, List, [], ◌∷◌, ◌++◌, length, take, drop, get_or, refl, sym, ap, subst, ◌∙◌, arith, append_assoc, length-append, length-drop, take-append-drop}
-use Rattle.std.specs.List.{flat_map, AllByRecursion}
+use Rattle.std.proofs.Common.{◌≡◌, ◌≢◌, ◌⊎◌, inl, inr, ℕ, ◌+◌, ◌≤◌, List, [], ◌∷◌, ◌++◌, length, take, drop, get_or, refl, sym, ap, subst, ◌∙◌, arith, append_assoc, length-append, take-append-drop}
+use Rattle.std.specs.List.{AllByRecursion}
 use Rattle.std.proofs.lemmas.Bool.{cases_eq}
 use Rattle.std.proofs.lemmas.Grind.{flat_map-append}
-use Rattle.std.proofs.lemmas.List.{append-nil, take_at, drop_at, drop_more, drop_all, take-append-le}
+use Rattle.std.proofs.lemmas.List.{append-nil, take_at, drop_at, drop_more}
 use Rattle.lease_core.specs.declared.record.Record.{Record}
-use Rattle.durable_journal.specs.RecordText.{records_text}
-use Rattle.durable_journal.specs.Disk.{IsTorn, with_piece}
+use Rattle.durable_journal.specs.Disk.{IsTorn}
 use Rattle.durable_journal.specs.Batches.{with_batch, with_open_gate, IsBatchImage}
-use Rattle.durable_journal.specs.Files.{IsLawful, IsBatch, AreBatches, AreRuns, IsFile, HoldsBatches, Stands, IsDamaged, batch_text, file_text, all_of}
-use Rattle.durable_journal.proofs.Once.{Same, BatchesBehind, batches_behind, batch_once, cons_tail}
+use Rattle.durable_journal.specs.Files.{IsBatch, AreBatches, AreRuns, HoldsBatches, Stands, IsDamaged, batch_text, file_text, all_of}
+use Rattle.durable_journal.proofs.Once.{batches_behind, cons_tail}
 use Rattle.durable_journal.proofs.Runs.{runs_front}
 
 pub file_append : (bs cs : List (List Record)) → file_text (bs ++ cs) ≡ file_text bs ++ file_text cs

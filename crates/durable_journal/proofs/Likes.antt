@@ -1,13 +1,12 @@
 -- The entry that may have some numbers is the one that has them.
 use Rattle.std.specs.Prelude.{◌==◌, ◌&&◌, false}
 use Rattle.std.proofs.lemmas.Bool.Decides.{nat_tests}
-use Rattle.std.proofs.Common.{◌≡◌, ℕ, ◌+◌, ◌<◌, ◌^◌, ◌%◌, Option, Some, None, refl, ap, sym, subst, ◌∙◌, arith}
+use Rattle.std.proofs.Common.{◌≡◌, ℕ, ◌<◌, ◌^◌, Some, refl, ap, sym, subst, arith}
 use Rattle.lease_core.specs.declared.entry.Entry.{Entry}
 use Rattle.lease_core.specs.declared.entry.Entry.TheVariants.{Arrive, Admin, Bind, Plan, Leave, Reset, Granted, Refused, Send, Release, Timeout, Hold, Lapse}
-use Rattle.lease_core.specs.declared.entry.Why.{Why}
 use Rattle.lease_core.specs.declared.entry.Why.TheVariants.{UnknownSession, OtherOwner, Reserved, LeasesSpent, MissingMessages}
 use Rattle.durable_journal.specs.declared.numbers.Numbers.{Numbers}
-use Rattle.durable_journal.specs.Numbers.{numbers_of, refusal_numbers, HasTypes, WhyHasTypes, HasMoment, low_8, low_16, low_32, why_like, refusal_like, entry_like}
+use Rattle.durable_journal.specs.Numbers.{numbers_of, HasTypes, HasMoment, low_8, low_16, low_32, entry_like}
 
 pub low_8_is : (n : ℕ) → n < 2 ^ 8 → low_8 n ≡ n
 low_8_is n small = omega arith

@@ -1,10 +1,10 @@
 -- What a crash leaves at each moment while a batch is written.
-use Rattle.std.proofs.Common.{◌≡◌, inl, inr, ℕ, ◌+◌, ◌<◌, ◌≤◌, List, [], ◌∷◌, ◌++◌, length, take, drop, Option, Some, None, refl, sym, ap, subst, ◌∙◌, arith, append_assoc, length-append, length-drop}
+use Rattle.std.proofs.Common.{◌≡◌, inl, inr, ℕ, ◌+◌, ◌≤◌, List, [], ◌∷◌, ◌++◌, length, take, drop, Option, Some, None, refl, sym, ap, subst, ◌∙◌, arith, append_assoc, length-append, length-drop}
 use Rattle.std.specs.Prelude.{max, IfSome}
 use Rattle.std.specs.Option.{option_map}
 use Rattle.std.proofs.lemmas.List.{take_at, drop_at, length-take-le}
-use Rattle.durable_journal.specs.Disk.{Step, Write, Sync, History, bytes_of, bytes_after, with_piece, after_step, IsTorn, IsImageAfter, IsImage, AllImages, AllMoments, CrashesLeave, IsSynced, FailsToWrite}
-use Rattle.durable_journal.specs.Batches.{IsReadyFor, with_batch, with_open_gate, IsBatchImage, BatchLeaves, HasBatchOnDisk, BatchStands}
+use Rattle.durable_journal.specs.Disk.{Step, Write, Sync, History, bytes_of, with_piece, after_step, IsTorn, AllImages, AllMoments, CrashesLeave, FailsToWrite}
+use Rattle.durable_journal.specs.Batches.{IsReadyFor, with_batch, IsBatchImage, BatchLeaves, HasBatchOnDisk, BatchStands}
 
 pub torn_same : (at size : ℕ) (b : List ℕ) → IsTorn at size b b
 torn_same at size b = record { before = refl; behind = refl; no_shorter = omega arith; no_longer = omega arith }

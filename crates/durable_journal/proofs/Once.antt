@@ -1,15 +1,15 @@
 -- Records, batches and files are read in one way.
-use Rattle.std.proofs.Common.{◌≡◌, ◌≢◌, ◌⊎◌, inl, inr, ℕ, ◌+◌, ◌<◌, ◌≤◌, ◌^◌, List, [], ◌∷◌, ◌++◌, length, take, drop, Option, Some, None, refl, sym, ap, subst, ◌∙◌, arith, append_assoc, length-append}
+use Rattle.std.proofs.Common.{◌≡◌, ◌≢◌, ℕ, ◌≤◌, List, [], ◌∷◌, ◌++◌, length, drop, refl, sym, ap, subst, ◌∙◌, arith, append_assoc, length-append}
 use Rattle.std.specs.Int.{to_be_bytes, w32}
-use Rattle.std.specs.List.{flat_map, AllByRecursion}
+use Rattle.std.specs.List.{AllByRecursion}
 use Rattle.std.proofs.lemmas.List.{append-nil}
 use Rattle.std.proofs.lemmas.Option.{same_Some}
 use Rattle.lease_core.specs.declared.entry.Entry.{Entry}
 use Rattle.lease_core.specs.declared.entry.Entry.TheVariants.{Arrive, Admin, Bind, Plan, Leave, Reset, Granted, Refused, Send, Release, Timeout, Hold, Lapse}
 use Rattle.lease_core.specs.declared.record.Record.{Record}
-use Rattle.durable_journal.specs.Numbers.{numbers_of, HasTypes, HasMoment, entry_like}
-use Rattle.durable_journal.specs.RecordText.{head_text, head_of, record_text, records_text, HeadHasTypes}
-use Rattle.durable_journal.specs.Records.{IsRecord, HasParts}
+use Rattle.durable_journal.specs.Numbers.{numbers_of, HasTypes, HasMoment}
+use Rattle.durable_journal.specs.RecordText.{head_text, head_of, record_text, records_text}
+use Rattle.durable_journal.specs.Records.{HasParts}
 use Rattle.durable_journal.specs.Files.{IsLawful, IsBatch, batch_text, file_text}
 use Rattle.durable_journal.proofs.Heads.{same_front, same_rest, once_32, head_once, length-head_text}
 use Rattle.durable_journal.proofs.Likes.{like_by}

@@ -1,21 +1,21 @@
 -- A journal at rest: how recovery comes to it, and how a record and a batch more leave it.
-use Rattle.std.proofs.Common.{◌≡◌, ◌≢◌, ◌⊎◌, inl, inr, ℕ, ◌+◌, ◌<◌, ◌≤◌, List, [], ◌∷◌, ◌++◌, length, take, drop, Option, Some, None, refl, sym, ap, subst, ◌∙◌, arith, append_assoc, length-append, length-drop}
+use Rattle.std.proofs.Common.{◌≡◌, inl, inr, ℕ, ◌+◌, ◌<◌, ◌≤◌, List, [], ◌∷◌, ◌++◌, length, take, drop, Option, Some, None, refl, sym, ap, subst, ◌∙◌, arith, append_assoc, length-append, length-drop}
 use Rattle.std.specs.Prelude.{IfSome, Result, Err, IsErrOf}
 use Rattle.std.specs.Option.{option_map}
 use Rattle.std.specs.Int.{to_be_bytes, w32}
-use Rattle.std.specs.List.{flat_map, AllByRecursion}
+use Rattle.std.specs.List.{AllByRecursion}
 use Rattle.std.proofs.lemmas.Grind.{flat_map-append}
 use Rattle.std.proofs.lemmas.List.{append-nil, drop_all, drop-append-le, length-take}
 use Rattle.lease_core.specs.declared.record.Record.{Record}
 use Rattle.durable_journal.specs.declared.limits.TheConstants.{LONGEST_JOURNAL}
 use Rattle.durable_journal.specs.RecordText.{record_text, records_text, head_text, head_of}
-use Rattle.durable_journal.specs.Disk.{Step, Write, Sync, History, bytes_of, after_step, with_piece, IsTorn, IsImage, AllImages, CrashesLeave, CrashesLeaveIn, IsSynced, FailsToWrite}
+use Rattle.durable_journal.specs.Disk.{Write, Sync, History, bytes_of, after_step, with_piece, IsTorn, AllImages, CrashesLeave, CrashesLeaveIn, IsSynced, FailsToWrite}
 use Rattle.durable_journal.specs.Batches.{IsReadyFor, BatchLeaves, BatchStands, HasBatchOnDisk, with_open_gate}
-use Rattle.durable_journal.specs.Files.{IsLawful, IsBatch, AreBatches, AreRuns, HoldsBatches, IsFile, Stands, IsDamaged, batch_text, file_text, all_of}
-use Rattle.durable_journal.specs.Recovered.{IsReadTo, IsReadToEnd}
-use Rattle.durable_journal.specs.Journal.{TellsThat, IsLeftOrSame, IsBeforeOrBehind, IsAtRest, IsDraft, IsWithin, IsFound, LeavesSame, Settles, SettlesIn, file_end}
+use Rattle.durable_journal.specs.Files.{IsLawful, IsBatch, AreBatches, AreRuns, Stands, IsDamaged, batch_text, file_text, all_of}
+use Rattle.durable_journal.specs.Recovered.{IsReadToEnd}
+use Rattle.durable_journal.specs.Journal.{TellsThat, IsLeftOrSame, IsBeforeOrBehind, IsAtRest, IsDraft, IsWithin, IsFound, LeavesSame, SettlesIn, file_end}
 use Rattle.durable_journal.proofs.Heads.{length-head_text}
-use Rattle.durable_journal.proofs.Moments.{length-with_piece, leaves_map}
+use Rattle.durable_journal.proofs.Moments.{leaves_map}
 use Rattle.durable_journal.proofs.Images.{short_none, stands_once, all_more, each_more, batch_image, written_is, file_more}
 use Rattle.durable_journal.proofs.Runs.{runs_front}
 

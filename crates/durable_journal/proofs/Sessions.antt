@@ -1,9 +1,7 @@
 -- The one session message of which a body may be.
-use Rattle.std.proofs.Common.{◌≡◌, ◌≢◌, inl, inr, ℕ, ◌+◌, ◌<◌, ◌≤◌, ◌^◌, Bool, true, false, cond, List, [], ◌∷◌, ◌++◌, length, take, drop, get_or, Option, Some, None, refl, sym, ap, subst, ◌∙◌, arith, append_assoc, length-append}
-use Rattle.std.specs.Prelude.{codes, decimal, nat_le, nat_eq, ◌==◌, ◌||◌, Result, Ok, Err, IfOk}
+use Rattle.std.proofs.Common.{◌≡◌, ◌≢◌, ℕ, ◌+◌, ◌<◌, ◌≤◌, ◌^◌, Bool, true, false, cond, List, [], ◌∷◌, ◌++◌, length, take, drop, get_or, Option, Some, None, refl, sym, ap, subst, ◌∙◌, arith, append_assoc, length-append}
+use Rattle.std.specs.Prelude.{codes, decimal, nat_le, nat_eq, Result, Ok, Err, IfOk}
 use Rattle.std.specs.Cmp.Lexicographic.{pointwise}
-use Rattle.std.specs.List.{list_any}
-use Rattle.std.proofs.lemmas.Bool.{cases_eq}
 use Rattle.std.proofs.lemmas.Bool.Decides.{nat_tests}
 use Rattle.std.proofs.lemmas.List.{take_more, take_all, take_at, drop_at, drop_more, take-append-drop}
 use Rattle.fix_fields.specs.Field.{has_soh}
@@ -11,8 +9,8 @@ use Rattle.session_core.specs.declared.acts.Admin.{Admin}
 use Rattle.session_core.specs.declared.acts.Admin.TheVariants.{Logon, Heartbeat, TestRequest, ResendRequest, Reject, Logout}
 use Rattle.durable_journal.specs.declared.admins.TheConstants.{LONGEST_KIND, LONG_KIND}
 use Rattle.session_core.specs.Admin.{admin_text, logon_text, heartbeat_text, test_request_text, resend_request_text, reject_text, logout_text}
-use Rattle.durable_journal.specs.Records.{IsPlain, IsPlainAdmin, IsAdminBody}
-use Rattle.durable_journal.specs.Admins.{HoldsOfSome, IsTextOf, logon_rest, text_rest, resend_rest, reject_rest, kind_rest, reason_rest, reset_rest, NamesReject, IsNamedAs}
+use Rattle.durable_journal.specs.Records.{IsPlain, IsPlainAdmin}
+use Rattle.durable_journal.specs.Admins.{HoldsOfSome, IsTextOf, logon_rest, text_rest, resend_rest, reject_rest, kind_rest, reason_rest, NamesReject, IsNamedAs}
 use Rattle.durable_journal.proofs.Once.{Same}
 
 -- ---- up to the next SOH

@@ -1,12 +1,12 @@
 -- What a disk in memory records of its steps.
-use Rattle.std.proofs.Common.{◌≡◌, ℕ, zero, suc, ◌+◌, ◌-◌, ◌≤◌, List, [], ◌∷◌, ◌++◌, length, take, drop, refl, sym, ap, subst, ◌∙◌, arith, append_assoc, length-append, length-drop, take-append-drop, Option, Some, Bool, true, false}
+use Rattle.std.proofs.Common.{◌≡◌, ℕ, zero, suc, ◌+◌, ◌-◌, ◌≤◌, List, [], ◌∷◌, ◌++◌, length, take, drop, refl, sym, ap, ◌∙◌, arith, length-append, length-drop, take-append-drop, Option, Some, Bool, true, false}
 use Rattle.std.specs.Prelude.{if◌then◌else◌, ◌==◌, nat_lt}
 use Rattle.std.specs.List.{list_any}
 use Rattle.gate_io.specs.Counts.{one_more}
 use Rattle.std.proofs.lemmas.List.{append-nil, take-append-le, drop-append-le, take_all, nil_from_length}
 use Rattle.durable_journal.specs.declared.memory.DiskStep.{DiskStep}
 use Rattle.durable_journal.specs.declared.memory.DiskStep.TheVariants.{Wrote, Synced}
-use Rattle.durable_journal.specs.Disk.{Step, Write, Sync, History, bytes_after, with_piece, after_step}
+use Rattle.durable_journal.specs.Disk.{Step, Write, Sync, History, bytes_after, with_piece}
 use Rattle.durable_journal.specs.Memory.{MemoryState, fails_now, after_call, after_fault, after_write, with_step, step_of, steps_of, written_by, written_in, IsMemory}
 
 step_within : (row : DiskStep) (w p : List ℕ) → written_by row ≤ length w → step_of row (w ++ p) ≡ step_of row w

@@ -6,10 +6,9 @@ use Rattle.std.specs.List.{AllByRecursion}
 use Rattle.std.proofs.lemmas.List.{append-nil, take_at, drop-drop, drop_more, drop_all, length-take}
 use Rattle.lease_core.specs.declared.record.Record.{Record}
 use Rattle.durable_journal.specs.RecordText.{records_text}
-use Rattle.durable_journal.specs.Disk.{History, bytes_of, IsSynced}
-use Rattle.durable_journal.specs.Files.{IsLawful, IsBatch, AreBatches, AreRuns, IsDamaged, Stands, batch_text, file_text, all_of}
+use Rattle.durable_journal.specs.Disk.{History, bytes_of}
+use Rattle.durable_journal.specs.Files.{IsBatch, AreRuns, IsDamaged, batch_text, file_text}
 use Rattle.durable_journal.specs.Recovered.{ReadSoFar, GoesOn, GoesNowhere, IsWhole, IsCutShort, HasBatch, TakesBatch, TakesNone, IsReadTo, IsReadToEnd}
-use Rattle.durable_journal.specs.Journal.{IsAtRest, IsFound}
 use Rattle.durable_journal.proofs.Heads.{same_front, same_rest, once_32}
 use Rattle.durable_journal.proofs.Images.{file_more, all_more, each_more}
 

@@ -1,10 +1,10 @@
 -- A disk in memory.
-use Rattle.std.specs.Prelude.{◌≡◌, ℕ, ◌+◌, ◌-◌, ◌≤◌, ◌<◌, ◌==◌, ◌||◌, nat_lt, Bool, true, false, if◌then◌else◌, List, [], ◌∷◌, ◌++◌, length, take, drop, Result, Ok, Err, Option, Some}
+use Rattle.std.specs.Prelude.{◌≡◌, ℕ, ◌+◌, ◌-◌, ◌==◌, ◌||◌, nat_lt, Bool, if◌then◌else◌, List, [], ◌∷◌, length, take, drop}
 use Rattle.std.specs.List.{list_any}
 use Rattle.gate_io.specs.Counts.{one_more}
 use Rattle.durable_journal.specs.declared.memory.DiskStep.{DiskStep}
 use Rattle.durable_journal.specs.declared.memory.DiskStep.TheVariants.{Wrote, Synced}
-use Rattle.durable_journal.specs.Disk.{Step, Write, Sync, History, bytes_after, with_piece}
+use Rattle.durable_journal.specs.Disk.{Step, Write, Sync, History, bytes_after}
 
 -- What was done with it, how many bytes more it takes, how many calls more it records, which calls fail, and what was counted.
 pub record MemoryState : Type 0 where

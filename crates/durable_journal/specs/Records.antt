@@ -1,5 +1,5 @@
 -- What makes a record one.
-use Rattle.std.specs.Prelude.{◌≡◌, ◌≢◌, ℕ, ◌<◌, ◌≤◌, ◌^◌, false, List, [], length, Option, None, Some, Ok}
+use Rattle.std.specs.Prelude.{◌≡◌, ◌≢◌, ℕ, ◌<◌, ◌≤◌, ◌^◌, false, List, [], length, None, Some, Ok}
 use Rattle.gate_io.specs.declared.clocks.TheConstants.{LAST_MOMENT}
 use Rattle.fix_frame.specs.declared.layout.TheConstants.{LONGEST_FRAME}
 use Rattle.fix_frame.specs.Frame.{IsBody, frame_of}
@@ -12,7 +12,7 @@ use Rattle.session_core.specs.declared.acts.Admin.TheVariants.{Logon, Heartbeat,
 use Rattle.lease_core.specs.Steps.{IsLibrary}
 use Rattle.lease_core.specs.declared.limits.TheConstants.{MOST_LIBRARIES}
 use Rattle.lease_core.specs.declared.entry.Entry.{Entry}
-use Rattle.lease_core.specs.declared.entry.Entry.TheVariants.{Arrive, Admin, Bind, Plan, Leave, Reset, Granted, Refused, Send, Release, Timeout, Hold, Lapse}
+use Rattle.lease_core.specs.declared.entry.Entry.TheVariants.{Arrive, Admin, Plan, Granted, Refused, Send, Release, Timeout, Hold}
 use Rattle.lease_core.specs.declared.entry.Why.{Why}
 use Rattle.lease_core.specs.declared.entry.Why.TheVariants.{UnknownSession, OtherOwner, Reserved, LeasesSpent, MissingMessages}
 use Rattle.lease_core.specs.declared.record.Record.{Record}

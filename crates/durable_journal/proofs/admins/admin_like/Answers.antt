@@ -1,4 +1,4 @@
-use Rattle.std.proofs.Common.{◌≡◌, [], refl, arith}
+use Rattle.std.proofs.Common.{refl, arith}
 use Rattle.durable_journal.specs.Admins.{IsTextOf}
 use Rattle.durable_journal.proofs.Sessions.{logon_arm, heartbeat_arm, test_request_arm, resend_arm, reject_arm, logout_arm, other_arm, none_arm, both_ok}
 use Rattle.std.specs.Prelude.{Some, None}

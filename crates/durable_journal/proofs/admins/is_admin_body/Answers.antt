@@ -1,8 +1,5 @@
-use Rattle.std.proofs.Common.{◌≡◌, ◌∙◌, sym, true, false, List, arith}
-use Rattle.std.specs.Prelude.{IsTrue, IfSome}
+use Rattle.std.proofs.Common.{◌≡◌, ◌∙◌, sym, arith}
 use Rattle.session_core.specs.Admin.{admin_text}
-use Rattle.durable_journal.specs.Records.{IsAdminBody, IsPlainAdmin}
-use Rattle.durable_journal.specs.Admins.{HoldsOfSome}
 use Rattle.durable_journal.proofs.Sessions.{point_is, point_by}
 use Rattle.durable_journal.proofs.admins.is_admin_body.Goals as goal
 

@@ -1,5 +1,5 @@
-use Rattle.std.proofs.Common.{◌≡◌, ◌∙◌, sym, ap, List, ℕ, rules}
-use Rattle.durable_journal.specs.Admins.{HoldsOfSome, kind_rest}
+use Rattle.std.proofs.Common.{◌≡◌, ◌∙◌, ap, List, ℕ, rules}
+use Rattle.durable_journal.specs.Admins.{kind_rest}
 use Rattle.durable_journal.proofs.Sessions.{reject_names_by}
 use Rattle.durable_journal.proofs.admins.reject_like.Goals as goal
 

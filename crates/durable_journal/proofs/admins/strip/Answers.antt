@@ -1,5 +1,5 @@
-use Rattle.std.proofs.Common.{◌≡◌, ◌∙◌, ◌++◌, ◌-◌, ℕ, List, length, take, drop, true, false, sym, ap, arith, rules, length-drop, take-append-drop}
-use Rattle.std.specs.Prelude.{nat_eq, not}
+use Rattle.std.proofs.Common.{◌≡◌, ◌∙◌, ◌++◌, ◌-◌, ℕ, List, length, take, drop, true, sym, ap, arith, length-drop, take-append-drop}
+use Rattle.std.specs.Prelude.{nat_eq}
 use Rattle.std.specs.Cmp.Lexicographic.{pointwise}
 use Rattle.std.proofs.lemmas.List.{take_all}
 use Rattle.durable_journal.proofs.Sessions.{prefix_taken, point_is, point_by}

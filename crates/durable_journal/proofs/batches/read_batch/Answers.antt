@@ -1,8 +1,8 @@
-use Rattle.std.proofs.Common.{◌≡◌, ◌∙◌, ◌++◌, ◌+◌, ◌<◌, ◌≤◌, [], List, ℕ, Option, length, take, drop, ap, sym, subst, arith, rules}
+use Rattle.std.proofs.Common.{◌≡◌, ◌∙◌, ◌++◌, ◌+◌, [], List, ℕ, length, take, drop, ap, sym, subst, arith, rules}
 use Rattle.std.specs.Prelude.{IfSome}
 use Rattle.std.specs.Int.{to_be_bytes, w32}
 use Rattle.std.proofs.lemmas.List.{nil_from_length, take_at}
-use Rattle.durable_journal.specs.Disk.{History, bytes_of}
+use Rattle.durable_journal.specs.Disk.{bytes_of}
 use Rattle.durable_journal.specs.Recovered.{IsWhole}
 use Rattle.durable_journal.proofs.Wholes.{short_in, cut_in, whole_in, read_as}
 use Rattle.durable_journal.proofs.batches.read_batch.Goals as goal

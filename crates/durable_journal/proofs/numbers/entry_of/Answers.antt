@@ -1,4 +1,4 @@
-use Rattle.std.proofs.Common.{◌≡◌, ◌∙◌, sym, ap, Some, arith}
+use Rattle.std.proofs.Common.{◌≡◌, ◌∙◌, sym, ap}
 use Rattle.std.proofs.lemmas.Option.{same_Some}
 use Rattle.durable_journal.specs.Numbers.{numbers_of}
 use Rattle.durable_journal.proofs.Likes.{like_by, differs}

@@ -1,7 +1,7 @@
 use Rattle.std.proofs.Common.{◌≡◌, ◌++◌, ◌∙◌, List, ℕ, take, drop, length, sym, ap, arith, rules, take-append-drop}
 use Rattle.std.proofs.lemmas.List.{length-take}
 use Rattle.std.proofs.lemmas.Option.{same_Some}
-use Rattle.durable_journal.proofs.Fronts.{none_short, none_cut, none_like, none_lawful, front_found}
+use Rattle.durable_journal.proofs.Fronts.{none_short, none_cut, none_like, none_lawful}
 use Rattle.durable_journal.proofs.reading.read_record.Goals as goal
 
 pub returns-then-bytes-lt-RECORD_HEAD-clause-none : goal.returns-then-bytes-lt-RECORD_HEAD-clause-none

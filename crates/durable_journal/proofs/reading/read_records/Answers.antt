@@ -1,5 +1,4 @@
-use Rattle.std.proofs.Common.{◌≡◌, ◌∙◌, ◌++◌, ◌∷◌, ◌<◌, [], ℕ, Option, length, sym, subst, rules}
-use Rattle.std.specs.Prelude.{IfNone}
+use Rattle.std.proofs.Common.{◌∙◌, ◌++◌, ◌∷◌, ◌<◌, [], ℕ, length, sym, subst, rules}
 use Rattle.durable_journal.specs.Files.{AreRuns}
 use Rattle.durable_journal.specs.Recovered.{IsFront, HasNoFront}
 use Rattle.durable_journal.proofs.Fronts.{read_more, stops_unread, stops_refused, front_smaller}

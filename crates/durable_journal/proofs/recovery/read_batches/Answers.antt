@@ -1,11 +1,10 @@
-use Rattle.std.proofs.Common.{◌≡◌, ◌∙◌, ◌+◌, ◌-◌, ◌<◌, [], ℕ, Option, List, drop, ap, sym, subst, arith, rules}
+use Rattle.std.proofs.Common.{◌≡◌, ◌∙◌, ◌+◌, ◌-◌, ◌<◌, [], ℕ, Option, drop, ap, sym, subst, arith, rules}
 use Rattle.std.specs.Prelude.{IfSome}
 use Rattle.std.specs.Vec.{vec_len}
-use Rattle.lease_core.specs.declared.record.Record.{Record}
 use Rattle.durable_journal.specs.Disk.{History, bytes_of}
 use Rattle.durable_journal.specs.Files.{IsDamaged}
 use Rattle.durable_journal.specs.Recovered.{ReadSoFar, IsReadTo, TakesBatch, TakesNone}
-use Rattle.durable_journal.proofs.Wholes.{some_bytes, damages_in, step_in}
+use Rattle.durable_journal.proofs.Wholes.{damages_in, step_in}
 use Rattle.durable_journal.proofs.recovery.read_batches.Goals as goal
 
 pub batch-init : goal.batch-init

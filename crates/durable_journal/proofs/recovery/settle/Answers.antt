@@ -1,4 +1,4 @@
-use Rattle.std.proofs.Common.{◌≡◌, ◌∙◌}
+use Rattle.std.proofs.Common.{◌∙◌}
 use Rattle.durable_journal.proofs.Rests.{same_synced, same_torn, same_written, same_gated, end_after}
 use Rattle.durable_journal.proofs.recovery.settle.Goals as goal
 

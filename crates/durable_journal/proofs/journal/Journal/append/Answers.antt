@@ -1,9 +1,9 @@
-use Rattle.std.proofs.Common.{◌≡◌, ◌⊎◌, inl, inr, ◌∙◌, ◌+◌, ◌≤◌, ◌++◌, ◌∷◌, [], List, ℕ, length, ap, sym, subst, arith, rules}
+use Rattle.std.proofs.Common.{◌≡◌, inr, ◌∙◌, ◌+◌, ◌++◌, ◌∷◌, [], List, ℕ, length, ap, sym, subst, arith, rules}
 use Rattle.std.specs.Prelude.{IfSome}
 use Rattle.lease_core.specs.declared.record.Record.{Record}
 use Rattle.durable_journal.specs.RecordText.{record_text}
 use Rattle.durable_journal.specs.Files.{AreRuns, IsLawful}
-use Rattle.durable_journal.specs.Journal.{JournalState, Keeps, IsAtRest, IsDraft, IsWithin, file_end}
+use Rattle.durable_journal.specs.Journal.{JournalState, Keeps, IsAtRest, IsDraft, file_end}
 use Rattle.durable_journal.proofs.Rests.{rest_more, draft_more, end_is, text_len}
 use Rattle.durable_journal.proofs.journal.Journal.append.Goals as goal
 

@@ -1,13 +1,11 @@
-use Rattle.std.proofs.Common.{◌≡◌, ◌⊎◌, inl, inr, ◌∙◌, ◌+◌, ◌<◌, ◌≤◌, ◌++◌, [], List, ℕ, Option, length, take, refl, sym, ap, subst, rules, arith}
+use Rattle.std.proofs.Common.{◌≡◌, inl, ◌+◌, ◌<◌, ◌++◌, [], List, ℕ, length, sym, ap, subst, rules, arith}
 use Rattle.std.specs.Prelude.{IfSome}
-use Rattle.std.proofs.lemmas.List.{append-nil}
 use Rattle.lease_core.specs.declared.record.Record.{Record}
-use Rattle.durable_journal.specs.declared.limits.TheConstants.{LONGEST_JOURNAL}
 use Rattle.durable_journal.specs.Disk.{CrashesLeaveIn, bytes_of}
 use Rattle.durable_journal.specs.Files.{Stands}
 use Rattle.durable_journal.specs.Batches.{BatchLeaves, BatchStands}
-use Rattle.durable_journal.specs.Journal.{JournalState, Keeps, IsBeforeOrBehind, IsAtRest, IsDraft, IsWithin, TellsThat}
-use Rattle.durable_journal.proofs.Rests.{rest_written, kept_written, moments_written, idle_kept, idle_moments, draft_none, within_some}
+use Rattle.durable_journal.specs.Journal.{JournalState, Keeps, IsBeforeOrBehind, IsAtRest, IsDraft, TellsThat}
+use Rattle.durable_journal.proofs.Rests.{rest_written, kept_written, moments_written, idle_moments, draft_none, within_some}
 use Rattle.durable_journal.proofs.journal.Journal.sync.Goals as goal
 
 pub returns-then-is_empty-clause-any_moment : goal.returns-then-is_empty-clause-any_moment

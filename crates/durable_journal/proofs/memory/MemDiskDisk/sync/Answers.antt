@@ -1,8 +1,8 @@
 use Rattle.std.proofs.Common.{◌≡◌, ◌++◌, ◌∷◌, ◌∙◌, [], List, Some, false, sym, ap, subst, rules, arith}
 use Rattle.std.proofs.lemmas.Bool.Decides.{nat_tests}
 use Rattle.durable_journal.specs.declared.memory.DiskStep.{DiskStep}
-use Rattle.durable_journal.specs.declared.memory.DiskStep.TheVariants.{Wrote, Synced}
-use Rattle.durable_journal.specs.Disk.{History, Step, Sync, after_step}
+use Rattle.durable_journal.specs.declared.memory.DiskStep.TheVariants.{Synced}
+use Rattle.durable_journal.specs.Disk.{Sync, after_step}
 use Rattle.durable_journal.specs.Memory.{MemoryState, IsMemory, steps_of, fails_now}
 use Rattle.durable_journal.proofs.Steps.{steps_synced, memory_synced, after_sync, after_sync_is, history_of}
 use Rattle.durable_journal.proofs.memory.MemDiskDisk.sync.Goals as goal

@@ -1,10 +1,8 @@
-use Rattle.std.proofs.Common.{◌≡◌, ◌++◌, ◌∷◌, ◌∙◌, ◌≤◌, [], List, ℕ, Some, false, true, inr, length, refl, sym, ap, subst, rules, arith}
-use Rattle.std.specs.Prelude.{◌==◌, nat_lt}
-use Rattle.std.specs.List.{list_any}
+use Rattle.std.proofs.Common.{◌≡◌, ◌++◌, ◌∷◌, ◌∙◌, [], List, ℕ, Some, inr, length, sym, ap, subst, rules, arith}
 use Rattle.std.proofs.lemmas.Bool.Decides.{nat_tests}
 use Rattle.durable_journal.specs.declared.memory.DiskStep.{DiskStep}
-use Rattle.durable_journal.specs.declared.memory.DiskStep.TheVariants.{Wrote, Synced}
-use Rattle.durable_journal.specs.Disk.{History, Step, Write, after_step, with_piece}
+use Rattle.durable_journal.specs.declared.memory.DiskStep.TheVariants.{Wrote}
+use Rattle.durable_journal.specs.Disk.{Write, after_step, with_piece}
 use Rattle.durable_journal.specs.Memory.{MemoryState, IsMemory, steps_of, after_write}
 use Rattle.durable_journal.proofs.Steps.{steps_torn, steps_wrote, memory_torn, memory_wrote, history_of, after_torn_is, after_wrote_is}
 use Rattle.durable_journal.proofs.memory.MemDiskDisk.write_at.Goals as goal

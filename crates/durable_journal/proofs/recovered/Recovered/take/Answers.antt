@@ -3,7 +3,7 @@ use Rattle.lease_core.specs.declared.record.Record.{Record}
 use Rattle.std.proofs.Common.{List}
 use Rattle.durable_journal.specs.Files.{AreRuns}
 use Rattle.durable_journal.specs.Recovered.{ReadSoFar, AreKept, TakesEntry, RefusesEntry}
-use Rattle.durable_journal.proofs.Kept.{kept_same, kept_taken, kept_refused}
+use Rattle.durable_journal.proofs.Kept.{kept_taken, kept_refused}
 use Rattle.durable_journal.proofs.recovered.Recovered.take.Goals as goal
 
 pub returns-then-not-branch-clause-refused : goal.returns-then-not-branch-clause-refused
