@@ -1,3 +1,4 @@
 pub mod Books
 pub mod Carrying
 pub mod News
+pub mod Telling

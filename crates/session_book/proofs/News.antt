@@ -35,23 +35,23 @@ pushes_first : (m : ℕ) (ns : List ℕ) → pushes m (with_last one_more ns) �
 pushes_first zero ns = refl
 pushes_first (suc m) ns = ap (λ xs. with_last one_more xs) (pushes_first m ns)
 
-lengths_sent : (at : ℕ) (bodies : List (List ℕ)) (log : List (List OutEntry)) → 1 ≤ length log → lengths (with_sends at bodies log) ≡ pushes (length bodies) (lengths log)
+pub lengths_sent : (at : ℕ) (bodies : List (List ℕ)) (log : List (List OutEntry)) → 1 ≤ length log → lengths (with_sends at bodies log) ≡ pushes (length bodies) (lengths log)
 lengths_sent at [] log h = refl
 lengths_sent at (body ∷ bodies) log h =
     lengths_sent at bodies (with_entry log (sent_entry at body)) (series_pushed log (sent_entry at body))
     ∙ ap (λ ns. pushes (length bodies) ns) (lengths_pushed log (sent_entry at body) h)
     ∙ pushes_first (length bodies) (lengths log)
 
-begun_sent : (at : ℕ) (bodies : List (List ℕ)) (log : List (List OutEntry)) → 1 ≤ length log → 1 ≤ length (with_sends at bodies log)
+pub begun_sent : (at : ℕ) (bodies : List (List ℕ)) (log : List (List OutEntry)) → 1 ≤ length log → 1 ≤ length (with_sends at bodies log)
 begun_sent at [] log h = h
 begun_sent at (body ∷ bodies) log h = begun_sent at bodies (with_entry log (sent_entry at body)) (series_pushed log (sent_entry at body))
 
-last_changed : (d : ℕ) (ns : List ℕ) → 1 ≤ length ns → last_or d (with_last one_more ns) ≡ last_or d ns + 1
+pub last_changed : (d : ℕ) (ns : List ℕ) → 1 ≤ length ns → last_or d (with_last one_more ns) ≡ last_or d ns + 1
 last_changed d [] h = absurd (omega arith)
 last_changed d (n ∷ []) h = refl
 last_changed d (n ∷ (m ∷ ns)) h = last_changed n (m ∷ ns) (omega arith)
 
-length_changed : (ns : List ℕ) → length (with_last one_more ns) ≡ length ns
+pub length_changed : (ns : List ℕ) → length (with_last one_more ns) ≡ length ns
 length_changed [] = refl
 length_changed (n ∷ []) = refl
 length_changed (n ∷ (m ∷ ns)) = ap (λ k. suc k) (length_changed (m ∷ ns))
@@ -103,11 +103,11 @@ abbrev pub HasMore : List Entry → List Entry → Type 0
 HasMore entries after = (m : ℕ) × ((state_of after).series ≡ pushes m (state_of entries).series)
 
 module _ (decide : EntriesDecide) where
-  series_sent : (m : ℕ) (entries : List Entry) → (state_of (entries_after_sends m entries)).series ≡ pushes m (state_of entries).series
+  pub series_sent : (m : ℕ) (entries : List Entry) → (state_of (entries_after_sends m entries)).series ≡ pushes m (state_of entries).series
   series_sent zero entries = refl
   series_sent (suc m) entries = ap (λ s. s.series) (decide (entries_after_sends m entries) _) ∙ ap (λ ns. with_last one_more ns) (series_sent m entries)
 
-  series_stood : (standing : Standing) (owner : ℕ) (entries : List Entry) → (state_of (entries_after_standing standing owner entries)).series ≡ (state_of entries).series
+  pub series_stood : (standing : Standing) (owner : ℕ) (entries : List Entry) → (state_of (entries_after_standing standing owner entries)).series ≡ (state_of entries).series
   series_stood Active owner entries = refl
   series_stood Released owner entries = ap (λ s. s.series) (decide entries _)
   series_stood Revoked owner entries = refl
@@ -125,10 +125,10 @@ module _ (decide : EntriesDecide) where
   series_if true entries after same = same
   series_if false entries after same = refl
 
-  series_held : (until : ℕ) (entries : List Entry) → (state_of (entries_after_hold until entries)).series ≡ (state_of entries).series
+  pub series_held : (until : ℕ) (entries : List Entry) → (state_of (entries_after_hold until entries)).series ≡ (state_of entries).series
   series_held until entries = series_if (owes_hold (state_of entries).latest) entries _ (ap (λ s. s.series) (decide entries _))
 
-  series_timed : (standing : Standing) (entries : List Entry) → (state_of (entries_after_timeout standing entries)).series ≡ (state_of entries).series
+  pub series_timed : (standing : Standing) (entries : List Entry) → (state_of (entries_after_timeout standing entries)).series ≡ (state_of entries).series
   series_timed Active entries = ap (λ s. s.series) (decide entries _)
   series_timed Released entries = refl
   series_timed Revoked entries = refl

@@ -2,3 +2,4 @@ pub mod Book
 pub mod Acts
 pub mod Words
 pub mod Kept
+pub mod Items

@@ -7,6 +7,7 @@
 
 mod acts;
 mod book;
+pub mod laws;
 mod leases;
 mod messages;
 mod reads;
