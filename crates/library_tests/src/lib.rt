@@ -6,6 +6,8 @@ mod acts;
 #[cfg(test)]
 mod application;
 #[cfg(test)]
+mod draw;
+#[cfg(test)]
 mod engine;
 #[cfg(test)]
 mod many;
@@ -14,6 +16,18 @@ mod meetings;
 #[cfg(test)]
 mod polls;
 #[cfg(test)]
+mod pumps;
+#[cfg(test)]
+mod relay;
+#[cfg(test)]
+mod releases;
+#[cfg(test)]
+mod requests;
+#[cfg(test)]
+mod sends;
+#[cfg(test)]
 mod shared;
 #[cfg(test)]
 mod steps;
+#[cfg(test)]
+mod waits;
