@@ -66,7 +66,7 @@ last_pushed (suc m) ns h =
     let more = last_changed 0 (pushes m ns) (subst (λ k. 1 ≤ k) (sym (length_pushes m ns)) h) in
     let before = last_pushed m ns h in omega arith
 
-series_is : (log : List (List OutEntry)) (k : ℕ) → 0 < k → series_at log k ≡ get_or log (k - 1) []
+pub series_is : (log : List (List OutEntry)) (k : ℕ) → 0 < k → series_at log k ≡ get_or log (k - 1) []
 series_is log k h = cond-false (k == 0) [] (get_or log (k - 1) []) (ne_eqb k 0 (λ e. omega arith))
 
 last_got : (entries : List OutEntry) (later : List (List OutEntry)) → last_or 0 (lengths (entries ∷ later)) ≡ length (get_or (entries ∷ later) (length later) [])

@@ -125,10 +125,10 @@ pub record LogsAgree (book : Book) : Type 0 where
   pub outbound : lengths book.outbound ≡ (state_of book.entries).series
   pub begun : 1 ≤ length book.outbound
 
-series_are : (book : Book) → LogsAgree book → series_of (state_of book.entries) ≡ length book.outbound
+pub series_are : (book : Book) → LogsAgree book → series_of (state_of book.entries) ≡ length book.outbound
 series_are book is = sym (ap length is.outbound) ∙ length-map book.outbound (λ entries. length entries)
 
-sent_is : (book : Book) → LogsAgree book → sent_in_series (state_of book.entries) ≡ length (series_at book.outbound (length book.outbound))
+pub sent_is : (book : Book) → LogsAgree book → sent_in_series (state_of book.entries) ≡ length (series_at book.outbound (length book.outbound))
 sent_is book is = ap (λ ns. last_or 0 ns) (sym is.outbound) ∙ last_length book.outbound is.begun
 
 -- what one entry tells to the bound connection
@@ -188,7 +188,7 @@ module _ (g : Grounds) where
       one_entry g.begins c book (after_resend at begin last book) _ (plan_items at begin last book) out _ is bound (g.itself log) refl told refl
   act_tells c at ResetAct book out is bound = one_entry g.begins c book (after_reset book) _ [] out out is bound (g.series book.outbound) refl refl (sym (with_nothing out))
 
-  agree_after : (at : ℕ) (act : Act) (book : Book) (out : Outgoing) → LogsAgree book → LogsAgree (after_act at act (with_outbox book out)).book
+  pub agree_after : (at : ℕ) (act : Act) (book : Book) (out : Outgoing) → LogsAgree book → LogsAgree (after_act at act (with_outbox book out)).book
   agree_after at (Accept body) book out is = record { outbound = is.outbound ∙ sym (ap (λ s. s.series) (g.decide book.entries _)); begun = is.begun }
   agree_after at (SendAct admin) book out is = record {
     outbound = lengths_pushed book.outbound (admin_entry at admin book) is.begun ∙ ap (λ ns. with_last one_more ns) is.outbound ∙ sym (ap (λ s. s.series) (g.decide book.entries _));

@@ -3,3 +3,4 @@ pub mod Acts
 pub mod Words
 pub mod Kept
 pub mod Items
+pub mod Told

@@ -3,10 +3,15 @@
 ghost use Rattle.std.specs.Prelude.{◌≡◌, ℕ, List, Some, length};
 ghost use Rattle.lease_core.specs.State.{state_of};
 ghost use Rattle.session_book.specs.Acts.{after_binding, after_dial, after_end, after_lapse, after_message, after_request, after_ticking};
-ghost use Rattle.session_book.specs.Book.{Desk, with_outbox};
+ghost use Rattle.session_book.specs.Book.{Desk, with_event, with_outbox};
 ghost use Rattle.session_book.specs.Items.{QueuesWhatIsTold};
 ghost use Rattle.lease_core.specs.declared.word.Word.{Word};
 ghost use Rattle.session_book.specs.Kept.{IsBook};
+ghost use Rattle.session_book.specs.Told.{CarriesOut};
+ghost use Rattle.lease_core.specs.declared.event.Event.TheVariants.{Binds};
+ghost use Rattle.session_core.specs.Ask.{ask};
+ghost use Rattle.session_core.specs.Receive.{receive};
+ghost use Rattle.session_core.specs.Tick.{tick};
 ghost use Rattle.session_book.specs.Words.{after_timeout, after_word, shown_sends};
 
 use lease_core::laws::entries_decide_one_by_one;
@@ -29,6 +34,21 @@ pub fn what_is_told_is_queued()
     ensures lapse { (c : ℕ) (desk : Desk) → IsBook desk.book → QueuesWhatIsTold c desk (with_outbox (after_lapse desk.book) desk.outgoing) }
     // One event behind another.
     ensures further { (c : ℕ) (first second third : Desk) → QueuesWhatIsTold c first second → QueuesWhatIsTold c second third → QueuesWhatIsTold c first third }
+{
+    entries_decide_one_by_one();
+    entries_stay();
+    logs_go_on();
+}
+
+/// The acts of the session machine are what the journal tells, one entry for each act, in order.
+pub fn acts_are_told()
+    ensures message { (at : ℕ) (body : List ℕ) (desk : Desk) → IsBook desk.book → CarriesOut (receive desk.book.machine body at).acts desk (after_message at body desk) }
+    ensures tick { (at : ℕ) (desk : Desk) → IsBook desk.book → CarriesOut (tick desk.book.machine at).acts desk (after_ticking at desk) }
+    // Behind the Bind.
+    ensures bind { (c at : ℕ) (body : List ℕ) (desk : Desk) → IsBook desk.book
+        → CarriesOut (receive desk.book.machine body at).acts (with_outbox (with_event (Binds c) desk.book) desk.outgoing) (after_binding at c body desk) }
+    ensures dial { (c at : ℕ) (desk : Desk) → IsBook desk.book
+        → CarriesOut (ask desk.book.machine).acts (with_outbox (with_event (Binds c) desk.book) desk.outgoing) (after_dial at c desk) }
 {
     entries_decide_one_by_one();
     entries_stay();
