@@ -1,9 +1,0 @@
-//! Tests of durable_journal by its public calls alone.
-#![tactic(auto)]
-
-#[cfg(test)]
-mod disks;
-#[cfg(test)]
-mod files;
-#[cfg(test)]
-mod rows;
