@@ -3,7 +3,7 @@
 ghost use Rattle.std.specs.Prelude.{◌≡◌, ◌≤◌, ◌++◌, [], List, ℕ, IfOk, OnOk, length, map, take, vec_len};
 ghost use Rattle.byte_tests.specs.Parts.{bytes_in, kept, pieces_in};
 ghost use Rattle.fix_frame.specs.Cut.{CutPiece, IsCutSoFar, cut};
-ghost use Rattle.fix_frame.specs.Cutting.{free, seen};
+ghost use Rattle.fix_frame.specs.Cutting.{free, lent_piece};
 
 use fix_frame::{Cutter, LEAST_LIMIT, LEAST_ROOM, LONGEST_FRAME, Piece};
 use gate_io::{Bytes, NoMemory};
@@ -75,7 +75,7 @@ fn drain(alloc: Global, cutter: &mut Cutter, given: &mut Vec<OwnedPiece>) -> Res
 
 /// The piece with bytes of its own.
 fn owned(alloc: Global, piece: Piece) -> Result<OwnedPiece, NoMemory>
-    ensures { IfOk result (λ copy. kept copy ≡ seen piece.entry) }
+    ensures { IfOk result (λ copy. kept copy ≡ lent_piece piece.entry) }
 {
     match piece {
         Piece::Good(body) => Ok(OwnedPiece::Good(Bytes::of(Vec::from_slice(alloc, body)?))),

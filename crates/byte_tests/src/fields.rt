@@ -1,7 +1,7 @@
 //! Fields read and written: worked rows, each fault with its place, and random bodies.
 
 use crate::plain_fields::{Place, read_plainly};
-use crate::texts::piped;
+use crate::texts::row_bytes;
 use fix_fields::{Builder, FieldError, Fields, check_body, data_tag_of, is_paired, put_field};
 use rand_core::utils::NextWord;
 use rand_pcg::Pcg32;
@@ -10,12 +10,12 @@ use std::test::Fail;
 
 #[test]
 fn a_data_field_may_hold_soh_and_equals(rt: HostRuntime) -> Result<(), Fail> {
-    let text = piped(
+    let text = row_bytes(
         rt.alloc(),
         "35=B|49=BUYER|56=GATE|34=2|52=20260105-09:30:00.000|95=17|96=a|8=FIX.4.4|9=5|b|",
     )?;
     let fields = Fields::read(rt.alloc(), &text)?;
-    let raw = piped(rt.alloc(), "a|8=FIX.4.4|9=5|b")?;
+    let raw = row_bytes(rt.alloc(), "a|8=FIX.4.4|9=5|b")?;
     assert_eq!(rt; fields.len(), 7);
     assert!(rt; !fields.is_empty());
     let (tag, value) = fields.at(6);
@@ -57,7 +57,7 @@ fn each_fault_has_its_place(rt: HostRuntime) -> Result<(), Fail> {
         ("123456789=a", FieldError::NoEnd { at: 0 }),
     ];
     for (text, want) in cases {
-        let text = piped(rt.alloc(), text)?;
+        let text = row_bytes(rt.alloc(), text)?;
         match Fields::read(rt.alloc(), &text) {
             Ok(_) => assert!(rt; false, "read in spite of {want}"),
             Err(fault) => assert_eq!(rt; fault, want),
@@ -79,7 +79,7 @@ fn a_body_is_fit_or_has_a_place(rt: HostRuntime) -> Result<(), Fail> {
         ("35=D|11=a|52=b|43=Y|", Err(10)),
     ];
     for (text, want) in cases {
-        assert_eq!(rt; check_body(&piped(rt.alloc(), text)?), want, "{text}");
+        assert_eq!(rt; check_body(&row_bytes(rt.alloc(), text)?), want, "{text}");
     }
     Ok(())
 }
@@ -92,7 +92,7 @@ fn a_builder_writes_the_text(rt: HostRuntime) -> Result<(), Fail> {
     builder.field(alloc, 35, b"D")?;
     builder.field(alloc, 95, b"3")?;
     builder.field(alloc, 96, b"a\x01b")?;
-    let want = piped(rt.alloc(), "35=D|95=3|96=a|b|")?;
+    let want = row_bytes(rt.alloc(), "35=D|95=3|96=a|b|")?;
     assert_eq!(rt; builder.finish().as_slice(), want.as_slice());
     assert_eq!(rt; data_tag_of(95), Some(96));
     assert_eq!(rt; data_tag_of(96), None);
@@ -102,10 +102,10 @@ fn a_builder_writes_the_text(rt: HostRuntime) -> Result<(), Fail> {
 
 #[test]
 fn a_field_is_put_behind_the_text(rt: HostRuntime) -> Result<(), Fail> {
-    let mut text = piped(rt.alloc(), "35=D|")?;
+    let mut text = row_bytes(rt.alloc(), "35=D|")?;
     put_field(&mut text, 999_999_999, b"a")?;
     put_field(&mut text, 1, b"")?;
-    let want = piped(rt.alloc(), "35=D|999999999=a|1=|")?;
+    let want = row_bytes(rt.alloc(), "35=D|999999999=a|1=|")?;
     assert_eq!(rt; text, want);
     Ok(())
 }
@@ -142,7 +142,7 @@ fn body_of(alloc: Global, random: &mut Pcg32) -> Result<Vec<u8>, AllocError> {
     let mut body = Vec::new(alloc);
     for _ in 0..4 {
         let snippet = SNIPPETS[(random.next_word() % 24) as usize];
-        body.extend_from_slice(&piped(alloc, snippet)?)?;
+        body.extend_from_slice(&row_bytes(alloc, snippet)?)?;
     }
     Ok(body)
 }

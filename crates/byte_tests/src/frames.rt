@@ -1,7 +1,7 @@
 //! Frames: worked rows, garbled bytes and the limits.
 
 use crate::feeding::cut_parts;
-use crate::texts::piped;
+use crate::texts::row_bytes;
 use fix_frame::{
     Cutter, FrameError, LEAST_LIMIT, LEAST_ROOM, LONGEST_BODY, LONGEST_FRAME, Piece, frame_len,
     is_body, write_frame,
@@ -34,11 +34,11 @@ fn worked_frames_are_written_and_cut(rt: HostRuntime) -> Result<(), Fail> {
     ];
     let mut cutter = Cutter::new(rt.alloc(), LONGEST_FRAME)?;
     for (text, head, trailer, length) in rows {
-        let body = piped(rt.alloc(), text)?;
+        let body = row_bytes(rt.alloc(), text)?;
         let frame = frame_of(&rt, rt.alloc(), &body)?;
-        let mut whole = piped(rt.alloc(), head)?;
+        let mut whole = row_bytes(rt.alloc(), head)?;
         whole.extend_from_slice(&body)?;
-        whole.extend_from_slice(&piped(rt.alloc(), trailer)?)?;
+        whole.extend_from_slice(&row_bytes(rt.alloc(), trailer)?)?;
         assert_eq!(rt; frame, whole);
         assert_eq!(rt; frame.len(), length);
         assert!(rt; frame.len() <= cutter.room());
@@ -58,12 +58,12 @@ fn garbled_bytes_are_counted(rt: HostRuntime) -> Result<(), Fail> {
         ("8=FIX.4.4|9=65|", LOGON, "10=149|", 86, 86),
         ("8=FIX.4.4|9=58|", ORDER, "10=149|", 80, 1),
     ];
-    let order = piped(rt.alloc(), ORDER)?;
+    let order = row_bytes(rt.alloc(), ORDER)?;
     let after = frame_of(&rt, rt.alloc(), &order)?;
     for (head, body, trailer, garbled, count) in rows {
-        let mut bytes = piped(rt.alloc(), head)?;
-        bytes.extend_from_slice(&piped(rt.alloc(), body)?)?;
-        bytes.extend_from_slice(&piped(rt.alloc(), trailer)?)?;
+        let mut bytes = row_bytes(rt.alloc(), head)?;
+        bytes.extend_from_slice(&row_bytes(rt.alloc(), body)?)?;
+        bytes.extend_from_slice(&row_bytes(rt.alloc(), trailer)?)?;
         bytes.extend_from_slice(&after)?;
         let mut cutter = Cutter::new(rt.alloc(), LONGEST_FRAME)?;
         assert!(rt; bytes.len() <= cutter.room());
@@ -83,7 +83,7 @@ fn garbled_bytes_are_counted(rt: HostRuntime) -> Result<(), Fail> {
 
 /// A body of so many bytes.
 fn body_of(alloc: Global, size: usize) -> Result<Vec<u8>, Fail> {
-    let mut body = piped(alloc, "35=B|58=")?;
+    let mut body = row_bytes(alloc, "35=B|58=")?;
     body.resize(size.saturating_sub(1), b'x')?;
     body.push(1)?;
     Ok(body)
@@ -123,7 +123,7 @@ fn short_limits_are_held_to(rt: HostRuntime) -> Result<(), Fail> {
         ("8=FIX.4.4|9=11|35=0|58=xx|10=107|", 33),
     ];
     for (text, count) in rows {
-        let bytes = piped(rt.alloc(), text)?;
+        let bytes = row_bytes(rt.alloc(), text)?;
         for given in cut_parts(rt.alloc(), LEAST_LIMIT, &[bytes])? {
             assert_eq!(rt; given.len(), count);
         }
@@ -143,7 +143,7 @@ fn what_is_a_body(rt: HostRuntime) -> Result<(), Fail> {
         ("36=D|", false),
     ];
     for (text, wanted) in rows {
-        assert_eq!(rt; is_body(&piped(rt.alloc(), text)?), wanted, "{text}");
+        assert_eq!(rt; is_body(&row_bytes(rt.alloc(), text)?), wanted, "{text}");
     }
     Ok(())
 }

@@ -2,7 +2,7 @@
 //! can have. No contract ties it to the definition, and none of its code is the crate's.
 
 use crate::feeding::OwnedPiece;
-use crate::texts::piped;
+use crate::texts::row_bytes;
 use gate_io::Bytes;
 use std::alloc::{AllocError, Global};
 
@@ -26,17 +26,17 @@ pub(crate) fn forms(alloc: Global) -> Result<Vec<Vec<u8>>, AllocError> {
 
 /// The form of a frame whose length has so many digits and is `size`, of at most 12.
 fn form_of(alloc: Global, digits: usize, size: usize) -> Result<Vec<u8>, AllocError> {
-    let mut form = piped(alloc, "8=FIX.4.4|9=")?;
+    let mut form = row_bytes(alloc, "8=FIX.4.4|9=")?;
     let shown = format!(in alloc; "{size}")?;
     for _ in shown.len()..digits {
         form.push(b'0')?;
     }
     form.extend_from_slice(shown.as_bytes())?;
-    form.extend_from_slice(&piped(alloc, "|35=")?)?;
+    form.extend_from_slice(&row_bytes(alloc, "|35=")?)?;
     for _ in 4..size {
         form.push(b'?')?;
     }
-    form.extend_from_slice(&piped(alloc, "|10=###|")?)?;
+    form.extend_from_slice(&row_bytes(alloc, "|10=###|")?)?;
     Ok(form)
 }
 
@@ -79,7 +79,7 @@ fn piece_of(alloc: Global, stretch: &[u8]) -> Result<OwnedPiece, AllocError> {
         return Ok(garbled);
     };
     let sum = summed.iter().fold(0u8, |sum, byte| sum.wrapping_add(*byte));
-    let wanted = piped(alloc, format!(in alloc; "10={sum:03}|")?.as_str())?;
+    let wanted = row_bytes(alloc, format!(in alloc; "10={sum:03}|")?.as_str())?;
     if trailer != wanted.as_slice() {
         return Ok(garbled);
     }

@@ -2,7 +2,7 @@
 
 use crate::feeding::{OwnedPiece, cut_parts};
 use crate::plain_cut::{LIMIT, cut_plainly, forms};
-use crate::texts::piped;
+use crate::texts::row_bytes;
 use rand_core::utils::NextWord;
 use rand_pcg::Pcg32;
 use std::alloc::{AllocError, Global};
@@ -32,7 +32,7 @@ fn stream(alloc: Global, random: &mut Pcg32) -> Result<Vec<u8>, AllocError> {
     let mut stream = Vec::new(alloc);
     for _ in 0..6 {
         let snippet = SNIPPETS[(random.next_word() % 16) as usize];
-        stream.extend_from_slice(&piped(alloc, snippet)?)?;
+        stream.extend_from_slice(&row_bytes(alloc, snippet)?)?;
     }
     Ok(stream)
 }

@@ -9,7 +9,7 @@ use Rattle.std.specs.Char.{is_ascii_digit, digit_value}
 use Rattle.fix_fields.specs.Calendar.{Date, IsDate, day_number, day_of_date, is_date, days_in_month}
 use Rattle.fix_fields.specs.Number.{number_of}
 use Rattle.fix_fields.specs.Options.{◌>>=◌}
-use Rattle.fix_fields.specs.Stamp.{padded, date_text, time_text, fraction_text, stamp_of, day_in, second_of_day, second_in, fraction_in, moment_of, IsStamp, date_of_day}
+use Rattle.fix_fields.specs.Stamp.{last_digits, date_text, time_text, fraction_text, stamp_of, day_in, second_of_day, second_in, fraction_in, moment_of, IsStamp, date_of_day}
 use Rattle.fix_fields.proofs.Numbers.{IsNumber, IsNumber-from, number_of-from}
 use Rattle.fix_fields.proofs.CountOff.{day_number-date_of_day}
 use Rattle.fix_fields.proofs.Days.{is_date_true, is_date_from}
@@ -22,7 +22,7 @@ code_digit : (byte : ℕ) → is_ascii_digit byte ≡ true → (48 ≤ byte) × 
 code_digit byte digit = grind (arith, nat_tests)
 
 -- numbers of two, three and four digits
-two_digits : (n : ℕ) → n < 100 → IsNumber (padded 2 n) n
+two_digits : (n : ℕ) → n < 100 → IsNumber (last_digits 2 n) n
 two_digits n small =
     let a : n / 10 % 10 < 10 = omega arith in
     let b : n / 1 % 10 < 10 = omega arith in
@@ -34,7 +34,7 @@ two_digits n small =
       bound = omega arith;
     }
 
-three_digits : (n : ℕ) → n < 1_000 → IsNumber (padded 3 n) n
+three_digits : (n : ℕ) → n < 1_000 → IsNumber (last_digits 3 n) n
 three_digits n small =
     let a : n / 100 % 10 < 10 = omega arith in
     let b : n / 10 % 10 < 10 = omega arith in
@@ -47,7 +47,7 @@ three_digits n small =
       bound = omega arith;
     }
 
-four_digits : (n : ℕ) → n < 10_000 → IsNumber (padded 4 n) n
+four_digits : (n : ℕ) → n < 10_000 → IsNumber (last_digits 4 n) n
 four_digits n small =
     let a : n / 1_000 % 10 < 10 = omega arith in
     let b : n / 100 % 10 < 10 = omega arith in
@@ -62,7 +62,7 @@ four_digits n small =
     }
 
 -- and the only texts of such numbers
-only_two : (bytes : List ℕ) (n : ℕ) → length bytes ≡ 2 → IsNumber bytes n → (bytes ≡ padded 2 n) × (n < 100)
+only_two : (bytes : List ℕ) (n : ℕ) → length bytes ≡ 2 → IsNumber bytes n → (bytes ≡ last_digits 2 n) × (n < 100)
 only_two [] n two is = absurd (omega arith)
 only_two (a ∷ []) n two is = absurd (omega arith)
 only_two (a ∷ b ∷ c ∷ more) n two is = absurd (omega arith)
@@ -76,7 +76,7 @@ only_two (a ∷ b ∷ []) n two is =
     let ones : b ≡ 48 + n / 1 % 10 = omega (arith, value, x.0, x.1, y.0, y.1) in
     (rw (tens, ones) refl, omega (arith, value, x.1, y.1))
 
-only_three : (bytes : List ℕ) (n : ℕ) → length bytes ≡ 3 → IsNumber bytes n → (bytes ≡ padded 3 n) × (n < 1_000)
+only_three : (bytes : List ℕ) (n : ℕ) → length bytes ≡ 3 → IsNumber bytes n → (bytes ≡ last_digits 3 n) × (n < 1_000)
 only_three [] n three is = absurd (omega arith)
 only_three (a ∷ []) n three is = absurd (omega arith)
 only_three (a ∷ b ∷ []) n three is = absurd (omega arith)
@@ -94,7 +94,7 @@ only_three (a ∷ b ∷ c ∷ []) n three is =
     let ones : c ≡ 48 + n / 1 % 10 = omega (arith, value, x.0, x.1, y.0, y.1, z.0, z.1) in
     (rw (hundreds, tens, ones) refl, omega (arith, value, x.1, y.1, z.1))
 
-only_four : (bytes : List ℕ) (n : ℕ) → length bytes ≡ 4 → IsNumber bytes n → (bytes ≡ padded 4 n) × (n < 10_000)
+only_four : (bytes : List ℕ) (n : ℕ) → length bytes ≡ 4 → IsNumber bytes n → (bytes ≡ last_digits 4 n) × (n < 10_000)
 only_four [] n four is = absurd (omega arith)
 only_four (a ∷ []) n four is = absurd (omega arith)
 only_four (a ∷ b ∷ []) n four is = absurd (omega arith)
@@ -178,7 +178,7 @@ day_in-date date real =
     let y = number_of-from _ _ (four_digits date.year (omega (arith, real.to_9999))) in
     let m = number_of-from _ _ (two_digits date.month (omega (arith, real.to_december))) in
     let d = number_of-from _ _ (two_digits date.day (omega (arith, real.to_last, month_days))) in
-    day_in-parts (padded 4 date.year) (padded 2 date.month) (padded 2 date.day) refl refl
+    day_in-parts (last_digits 4 date.year) (last_digits 2 date.month) (last_digits 2 date.day) refl refl
     ∙ rw (y, m, d) (day_of_date-real date real)
 
 second_in-time : (second : ℕ) → second < 86_400 → second_in (time_text second) ≡ Some second
@@ -186,7 +186,7 @@ second_in-time second within =
     let h = number_of-from _ _ (two_digits (second / 3_600) (omega arith)) in
     let m = number_of-from _ _ (two_digits (second / 60 % 60) (omega arith)) in
     let s = number_of-from _ _ (two_digits (second % 60) (omega arith)) in
-    second_in-parts (padded 2 (second / 3_600)) (padded 2 (second / 60 % 60)) (padded 2 (second % 60)) refl refl
+    second_in-parts (last_digits 2 (second / 3_600)) (last_digits 2 (second / 60 % 60)) (last_digits 2 (second % 60)) refl refl
     ∙ rw (h, m, s) (second_of_day-parts second within)
 
 fraction_in-fraction : (millisecond : ℕ) → millisecond < 1_000 → fraction_in (fraction_text millisecond) ≡ Some millisecond
@@ -236,12 +236,12 @@ three_parts a b text =
     ∙ ap (λ (xs : List ℕ). take a text ++ xs) (sym (take-append-drop b (drop a text)) ∙ ap (λ (xs : List ℕ). take b (drop a text) ++ xs) (drop-drop b a text))
     ∙ sym (append_assoc (take a text) (take b (drop a text)) (drop (a + b) text))
 
-date_spelled : (text : List ℕ) (y m d : ℕ) → take 4 text ≡ padded 4 y → take 2 (drop 4 text) ≡ padded 2 m → drop 6 text ≡ padded 2 d → text ≡ date_text (record { year = y; month = m; day = d })
+date_spelled : (text : List ℕ) (y m d : ℕ) → take 4 text ≡ last_digits 4 y → take 2 (drop 4 text) ≡ last_digits 2 m → drop 6 text ≡ last_digits 2 d → text ≡ date_text (record { year = y; month = m; day = d })
 date_spelled text y m d year month day =
     three_parts 4 2 text
     ∙ ap (λ (xs : List ℕ). xs ++ take 2 (drop 4 text) ++ drop 6 text) year
-    ∙ ap (λ (xs : List ℕ). padded 4 y ++ xs ++ drop 6 text) month
-    ∙ ap (λ (xs : List ℕ). padded 4 y ++ padded 2 m ++ xs) day
+    ∙ ap (λ (xs : List ℕ). last_digits 4 y ++ xs ++ drop 6 text) month
+    ∙ ap (λ (xs : List ℕ). last_digits 4 y ++ last_digits 2 m ++ xs) day
 
 day_in-from : (text : List ℕ) (day : ℕ) → length text ≡ 8 → day_in text ≡ Some day → IsDay text day
 unfolding day_in
@@ -294,12 +294,12 @@ colons_between text first second =
     ∙ ap (λ (xs : List ℕ). take 2 text ++ xs) (first ∙ ap (λ (xs : List ℕ). 58 ∷ xs) middle)
     ∙ sym (append_assoc (take 2 text) (58 ∷ take 2 (drop 3 text)) (58 ∷ drop 6 text))
 
-time_spelled : (text : List ℕ) (h m s second : ℕ) → text ≡ take 2 text ++ (58 ∷ take 2 (drop 3 text)) ++ (58 ∷ drop 6 text) → take 2 text ≡ padded 2 h → take 2 (drop 3 text) ≡ padded 2 m → drop 6 text ≡ padded 2 s → second / 3_600 ≡ h → second / 60 % 60 ≡ m → second % 60 ≡ s → text ≡ time_text second
+time_spelled : (text : List ℕ) (h m s second : ℕ) → text ≡ take 2 text ++ (58 ∷ take 2 (drop 3 text)) ++ (58 ∷ drop 6 text) → take 2 text ≡ last_digits 2 h → take 2 (drop 3 text) ≡ last_digits 2 m → drop 6 text ≡ last_digits 2 s → second / 3_600 ≡ h → second / 60 % 60 ≡ m → second % 60 ≡ s → text ≡ time_text second
 time_spelled text h m s second whole hour minute last e f g =
     whole
-    ∙ ap (λ (xs : List ℕ). xs ++ (58 ∷ take 2 (drop 3 text)) ++ (58 ∷ drop 6 text)) (hour ∙ ap (padded 2) (sym e))
-    ∙ ap (λ (xs : List ℕ). padded 2 (second / 3_600) ++ (58 ∷ xs) ++ (58 ∷ drop 6 text)) (minute ∙ ap (padded 2) (sym f))
-    ∙ ap (λ (xs : List ℕ). padded 2 (second / 3_600) ++ (58 ∷ padded 2 (second / 60 % 60)) ++ (58 ∷ xs)) (last ∙ ap (padded 2) (sym g))
+    ∙ ap (λ (xs : List ℕ). xs ++ (58 ∷ take 2 (drop 3 text)) ++ (58 ∷ drop 6 text)) (hour ∙ ap (last_digits 2) (sym e))
+    ∙ ap (λ (xs : List ℕ). last_digits 2 (second / 3_600) ++ (58 ∷ xs) ++ (58 ∷ drop 6 text)) (minute ∙ ap (last_digits 2) (sym f))
+    ∙ ap (λ (xs : List ℕ). last_digits 2 (second / 3_600) ++ (58 ∷ last_digits 2 (second / 60 % 60)) ++ (58 ∷ xs)) (last ∙ ap (last_digits 2) (sym g))
 
 second_in-from : (text : List ℕ) (second : ℕ) → length text ≡ 8 → second_in text ≡ Some second → IsTime text second
 unfolding second_in

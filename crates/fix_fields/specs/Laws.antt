@@ -1,6 +1,9 @@
 -- What holds of the definitions.
 use Rattle.std.specs.Prelude.{◌≡◌, ◌≢◌, ◌↔◌, ◌⊎◌, ℕ, ◌^◌, ◌<◌, ◌≤◌, false, List, [], ◌∷◌, None, Some, Ok, Err, decimal}
 use Rattle.fix_frame.specs.Frame.{IsBody}
+use Rattle.gate_io.specs.declared.clocks.TheConstants.{LAST_MOMENT}
+use Rattle.fix_fields.specs.declared.calendar.TheConstants.{LAST_DAY}
+use Rattle.fix_fields.specs.declared.number.TheConstants.{MOST_NUMBER}
 use Rattle.fix_fields.specs.Body.{IsFields, EndsWithSoh}
 use Rattle.fix_fields.specs.Calendar.{Date, IsDate, day_number}
 use Rattle.fix_fields.specs.Field.{Field, text_of, has_soh}
@@ -39,19 +42,23 @@ HasNoTwo =
 abbrev pub StampsAsSpelled : Type 0
 StampsAsSpelled = (text : List ℕ) (ms : ℕ) → (moment_of text ≡ Some ms) ↔ IsStamp text ms
 
+-- no timestamp is behind the last moment
+abbrev pub MomentsHaveABound : Type 0
+MomentsHaveABound = (text : List ℕ) (ms : ℕ) → moment_of text ≡ Some ms → ms ≤ LAST_MOMENT
+
 -- what is written for a moment is read as it
 abbrev pub StampsReadAgain : Type 0
-StampsReadAgain = (ms : ℕ) → ms ≤ 253_402_300_799_999 → moment_of (stamp_of ms) ≡ Some ms
+StampsReadAgain = (ms : ℕ) → ms ≤ LAST_MOMENT → moment_of (stamp_of ms) ≡ Some ms
 
 -- counting off years and months undoes counting days, both ways
 abbrev pub CountsBothWays : Type 0
 CountsBothWays =
     ((date : Date) → IsDate date → date_of_day (day_number date) ≡ date)
-    × ((day : ℕ) → day ≤ 2_932_896 → IsDate (date_of_day day) × (day_number (date_of_day day) ≡ day))
+    × ((day : ℕ) → day ≤ LAST_DAY → IsDate (date_of_day day) × (day_number (date_of_day day) ≡ day))
 
 -- what std writes for a number of 32 bits is read as it
 abbrev pub NumbersReadAgain : Type 0
-NumbersReadAgain = (n : ℕ) → n ≤ 4_294_967_295 → number_of (decimal n) ≡ Some n
+NumbersReadAgain = (n : ℕ) → n ≤ MOST_NUMBER → number_of (decimal n) ≡ Some n
 
 -- the text of a number and of a moment may be the value of any field: it has no SOH
 abbrev pub TextsArePlain : Type 0

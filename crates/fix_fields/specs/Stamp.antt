@@ -3,11 +3,12 @@ use Rattle.std.specs.Prelude.{◌≡◌, ◌<◌, ◌⊎◌, ℕ, zero, suc, ◌
 use Rattle.fix_fields.specs.Calendar.{Date, IsDate, day_number, days_in_year, days_in_month, day_of_date}
 use Rattle.fix_fields.specs.Number.{number_of}
 use Rattle.fix_fields.specs.Options.{◌>>=◌}
+use Rattle.fix_fields.specs.declared.stamp.TheConstants.{DAY_MS, DAY_SECONDS}
 
 -- the last digits of a number, so many of them; 48 is the code of 0
-abbrev pub padded : ℕ → ℕ → List ℕ
-padded zero n = []
-padded (suc width) n = (48 + n / 10 ^ width % 10) ∷ padded width n
+abbrev pub last_digits : ℕ → ℕ → List ℕ
+last_digits zero n = []
+last_digits (suc width) n = (48 + n / 10 ^ width % 10) ∷ last_digits width n
 
 -- a day of a year: count off whole months from this one on
 unfoldable pub date_in_year : ℕ → ℕ → ℕ → ℕ → Date
@@ -32,21 +33,21 @@ date_of_day day = date_from 8029 1970 day
 
 -- YYYYMMDD
 abbrev pub date_text : Date → List ℕ
-date_text date = padded 4 date.year ++ padded 2 date.month ++ padded 2 date.day
+date_text date = last_digits 4 date.year ++ last_digits 2 date.month ++ last_digits 2 date.day
 
 -- HH:MM:SS, so many seconds after midnight; 58 is the code of `:`
 abbrev pub time_text : ℕ → List ℕ
 time_text second =
-    padded 2 (second / 3_600) ++ (58 ∷ padded 2 (second / 60 % 60)) ++ (58 ∷ padded 2 (second % 60))
+    last_digits 2 (second / 3_600) ++ (58 ∷ last_digits 2 (second / 60 % 60)) ++ (58 ∷ last_digits 2 (second % 60))
 
 -- .sss, with 46 for the point
 abbrev pub fraction_text : ℕ → List ℕ
-fraction_text millisecond = 46 ∷ padded 3 millisecond
+fraction_text millisecond = 46 ∷ last_digits 3 millisecond
 
 -- the text of a moment, YYYYMMDD-HH:MM:SS.sss, with 45 for the dash
 abbrev pub stamp_of : ℕ → List ℕ
 stamp_of ms =
-    date_text (date_of_day (ms / 86_400_000)) ++ (45 ∷ time_text (ms / 1_000 % 86_400)) ++ fraction_text (ms % 1_000)
+    date_text (date_of_day (ms / DAY_MS)) ++ (45 ∷ time_text (ms / 1_000 % DAY_SECONDS)) ++ fraction_text (ms % 1_000)
 
 -- the day number of a text YYYYMMDD
 unfoldable pub day_in : List ℕ → Option ℕ
@@ -85,7 +86,7 @@ moment_of text =
       day ← day_in (take 8 text)
       second ← second_in (take 8 (drop 9 text))
       millisecond ← fraction_in (drop 17 text)
-      Some ((day * 86_400 + second) * 1_000 + millisecond))
+      Some ((day * DAY_SECONDS + second) * 1_000 + millisecond))
     else None
 
 -- The text is a timestamp of the moment: a real date from 1970 to 9999, a dash and a time of day,
@@ -95,8 +96,8 @@ pub record IsStamp (text : List ℕ) (ms : ℕ) : Type 0 where
   pub second : ℕ
   pub millisecond : ℕ
   pub real : IsDate date
-  pub of_day : second < 86_400
+  pub of_day : second < DAY_SECONDS
   pub of_second : millisecond < 1_000
   pub spelled : (text ≡ date_text date ++ (45 ∷ time_text second) ++ fraction_text millisecond)
       ⊎ ((text ≡ date_text date ++ (45 ∷ time_text second)) × (millisecond ≡ 0))
-  pub moment : ms ≡ (day_number date * 86_400 + second) * 1_000 + millisecond
+  pub moment : ms ≡ (day_number date * DAY_SECONDS + second) * 1_000 + millisecond

@@ -1,6 +1,6 @@
 //! Laws of the definitions that the contracts of this crate cite. The functions do nothing.
 
-ghost use Rattle.fix_fields.specs.Laws.{ReadsAsSpelled, FaultsAsFirst, HasOneOfBoth, HasNoTwo, StampsAsSpelled, StampsReadAgain, CountsBothWays, NumbersReadAgain, TextsArePlain, TypedTextsAreBodies, ReadableBodiesEnd, FitBodiesAreBodies};
+ghost use Rattle.fix_fields.specs.Laws.{ReadsAsSpelled, FaultsAsFirst, HasOneOfBoth, HasNoTwo, StampsAsSpelled, MomentsHaveABound, StampsReadAgain, CountsBothWays, NumbersReadAgain, TextsArePlain, TypedTextsAreBodies, ReadableBodiesEnd, FitBodiesAreBodies};
 
 /// A body is read as a list of fields just where it is their texts, one after the other, and the
 /// fields are lawful.
@@ -27,6 +27,11 @@ pub fn has_no_two()
 /// day, with three decimals or none, and the moment is counted by calendar days.
 pub fn stamps_as_spelled()
     ensures { StampsAsSpelled }
+{}
+
+/// What is read as a moment is at most `LAST_MOMENT`.
+pub fn moments_have_a_bound()
+    ensures { MomentsHaveABound }
 {}
 
 /// What is written for a moment is read as that moment.

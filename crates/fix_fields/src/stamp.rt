@@ -1,12 +1,14 @@
 ghost use Rattle.std.specs.Prelude.{◌≡◌, ◌+◌, ◌%◌, ◌^◌, ◌≤◌, ◌<◌, length, IfSome};
 ghost use Rattle.fix_fields.specs.Stamp.{stamp_of, moment_of, day_in, second_in, fraction_in};
 
-use crate::calendar::{date_of, day_of};
+use crate::calendar::{LAST_DAY, date_of, day_of};
 use crate::number::read_number;
 use gate_io::LAST_MOMENT;
 
+/// The seconds of a day.
 const DAY_SECONDS: u64 = 86_400;
 
+/// The milliseconds of a day.
 const DAY_MS: u64 = 86_400_000;
 
 /// The text of a moment, in milliseconds since 1970-01-01 UTC, as `YYYYMMDD-HH:MM:SS.sss`: a
@@ -71,7 +73,7 @@ fn digit(n: u32) -> u8
 fn read_day(text: &[u8]) -> Option<u64>
     requires { length text.now ≡ 8 }
     ensures value { result ≡ day_in text.now }
-    ensures bound { IfSome result (λ day. day ≤ 2_932_896) }
+    ensures bound { IfSome result (λ day. day ≤ LAST_DAY) }
 {
     let year = read_number(&text[..4])?;
     let month = read_number(&text[4..6])?;
@@ -85,7 +87,7 @@ fn read_day(text: &[u8]) -> Option<u64>
 fn read_second(text: &[u8]) -> Option<u64>
     requires { length text.now ≡ 8 }
     ensures value { result ≡ second_in text.now }
-    ensures bound { IfSome result (λ second. second < 86_400) }
+    ensures bound { IfSome result (λ second. second < DAY_SECONDS) }
 {
     if text[2] != b':' || text[5] != b':' {
         return None;

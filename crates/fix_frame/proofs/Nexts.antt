@@ -3,7 +3,7 @@ use Rattle.std.proofs.Common.{◌≡◌, ℕ, ◌+◌, ◌-◌, ◌≤◌, ◌<�
 use Rattle.fix_frame.specs.declared.cutter.Piece.{Piece}
 use Rattle.fix_frame.specs.Frame.{number_of, checksum, stretch_of, IsBody}
 use Rattle.fix_frame.specs.Cut.{CutPiece, good, garbled, Found, Standing, waiting, stray, whole, standing_at, behind_start, behind_field, found_in, piece_of, piece_at, Cut, onto, cut, IsPiece, TakesPiece}
-use Rattle.fix_frame.specs.Cutting.{seen}
+use Rattle.fix_frame.specs.Cutting.{lent_piece}
 use Rattle.fix_frame.specs.Loans.{IsAfterNext}
 use Rattle.fix_frame.specs.Look.{IsQuiet}
 use Rattle.fix_frame.proofs.Digits.{one_more, fits_from}
@@ -126,11 +126,11 @@ some_takes limit bytes piece size given left h is e =
       good_body = λ body same. h.good_body body (sym is ∙ same);
     }
 
-pub some_after : (limit : ℕ) (bytes : List ℕ) (piece : CutPiece) (size : ℕ) (given : Piece) (left : List ℕ) → Stands limit bytes piece size → seen given ≡ piece → left ≡ drop size bytes
+pub some_after : (limit : ℕ) (bytes : List ℕ) (piece : CutPiece) (size : ℕ) (given : Piece) (left : List ℕ) → Stands limit bytes piece size → lent_piece given ≡ piece → left ≡ drop size bytes
     → IsAfterNext (record { limit = limit; held = bytes }) (Some given) (record { limit = limit; held = left })
 some_after limit bytes piece size given left h is e =
-    let takes = some_takes limit bytes piece size (seen given) left h is e in
-    record { limit = refl; held = takes; so_far = λ text before k. so_far-take limit text before bytes (seen given) left takes.goes_on k }
+    let takes = some_takes limit bytes piece size (lent_piece given) left h is e in
+    record { limit = refl; held = takes; so_far = λ text before k. so_far-take limit text before bytes (lent_piece given) left takes.goes_on k }
 
 -- ---- what is known before bytes come
 

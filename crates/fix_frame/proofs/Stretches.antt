@@ -1,27 +1,27 @@
 -- The parts of a stretch, by their places.
 use Rattle.std.proofs.Common.{◌≡◌, ℕ, ◌+◌, ◌-◌, ◌%◌, Bool, cond, List, [], ◌∷◌, ◌++◌, length, take, drop, codes, sum, sym, ap, ◌∙◌, arith, append_assoc, length-append, take_at, drop_at, eq-eqb, ne_eqb}
-use Rattle.fix_frame.specs.Frame.{head, number_of, checksum, summed, stretch_of}
+use Rattle.fix_frame.specs.Frame.{head, number_of, checksum, summed_bytes, stretch_of}
 use Rattle.fix_frame.specs.Cut.{good, garbled, piece_of}
 use Rattle.fix_frame.specs.Look.{IsStretchText}
 use Rattle.fix_frame.proofs.Form.{check_text}
 use Rattle.fix_frame.proofs.Standing.{length-stretch}
 
-length-summed : (f b : List ℕ) → length (summed f b) ≡ 13 + length f + length b
-length-summed f b = omega (arith, length-append f (1 ∷ b))
+length-summed_bytes : (f b : List ℕ) → length (summed_bytes f b) ≡ 13 + length f + length b
+length-summed_bytes f b = omega (arith, length-append f (1 ∷ b))
 
 -- what is summed, and what stands behind it
-stretch-summed : (f b d : List ℕ) → stretch_of f b d ≡ summed f b ++ check_text d []
-stretch-summed f b d = simp append_assoc
+stretch-summed_bytes : (f b d : List ℕ) → stretch_of f b d ≡ summed_bytes f b ++ check_text d []
+stretch-summed_bytes f b d = simp append_assoc
 
 module _ (s : List ℕ) (at : ℕ) (f b d : List ℕ) (h : IsStretchText s at f b d) where
   pub length-text : length s ≡ 20 + length f + length b
   length-text = ap length h.whole ∙ length-stretch f b d h.check_field.three
 
-  text : s ≡ summed f b ++ check_text d []
-  text = h.whole ∙ stretch-summed f b d
+  text : s ≡ summed_bytes f b ++ check_text d []
+  text = h.whole ∙ stretch-summed_bytes f b d
 
-  pub summed_part : take (length s - 7) s ≡ summed f b
-  summed_part = ap (λ (x : List ℕ). take (length s - 7) x) text ∙ take_at (summed f b) (check_text d []) (length s - 7) (omega (arith, length-text, length-summed f b))
+  pub summed_part : take (length s - 7) s ≡ summed_bytes f b
+  summed_part = ap (λ (x : List ℕ). take (length s - 7) x) text ∙ take_at (summed_bytes f b) (check_text d []) (length s - 7) (omega (arith, length-text, length-summed_bytes f b))
 
   pub body_part : take (length s - 7 - at) (drop at s) ≡ b
   body_part =
@@ -33,9 +33,9 @@ module _ (s : List ℕ) (at : ℕ) (f b d : List ℕ) (h : IsStretchText s at f 
 
   pub digits_part : take (length s - 7 + 4 - 1 + 3 - (length s - 7 + 4 - 1)) (drop (length s - 7 + 4 - 1) s) ≡ d
   digits_part =
-      let front = summed f b ++ codes "10=" in
-      let regroup : s ≡ front ++ (d ++ 1 ∷ []) = text ∙ sym (append_assoc (summed f b) (codes "10=") (d ++ 1 ∷ [])) in
-      let size : length front ≡ length s - 7 + 4 - 1 = omega (arith, length-append (summed f b) (codes "10="), length-summed f b, length-text) in
+      let front = summed_bytes f b ++ codes "10=" in
+      let regroup : s ≡ front ++ (d ++ 1 ∷ []) = text ∙ sym (append_assoc (summed_bytes f b) (codes "10=") (d ++ 1 ∷ [])) in
+      let size : length front ≡ length s - 7 + 4 - 1 = omega (arith, length-append (summed_bytes f b) (codes "10="), length-summed_bytes f b, length-text) in
       let behind : drop (length s - 7 + 4 - 1) s ≡ d ++ 1 ∷ [] = ap (drop (length s - 7 + 4 - 1)) regroup ∙ drop_at front (d ++ 1 ∷ []) (length s - 7 + 4 - 1) size in
       ap (λ (x : List ℕ). take (length s - 7 + 4 - 1 + 3 - (length s - 7 + 4 - 1)) x) behind ∙ take_at d (1 ∷ []) (length s - 7 + 4 - 1 + 3 - (length s - 7 + 4 - 1)) (omega (arith, h.check_field.three))
 

@@ -15,6 +15,6 @@ abbrev pub free : Cutting → ℕ
 free cutter = cutter.limit + LEAST_ROOM - length cutter.held
 
 -- the piece that a call gave
-abbrev pub seen : Piece → CutPiece
-seen (Good body) = good body.now
-seen (Garbled length) = garbled length
+abbrev pub lent_piece : Piece → CutPiece
+lent_piece (Good body) = good body.now
+lent_piece (Garbled length) = garbled length

@@ -39,12 +39,12 @@ pub record IsCheckField (field : List ℕ) : Type 0 where
   pub three : length field ≡ 3
 
 -- what the sum goes over: all bytes before `10=`
-abbrev pub summed : List ℕ → List ℕ → List ℕ
-summed field body = head ++ (field ++ 1 ∷ body)
+abbrev pub summed_bytes : List ℕ → List ℕ → List ℕ
+summed_bytes field body = head ++ (field ++ 1 ∷ body)
 
 -- the sum of all bytes before `10=`, modulo 256
 abbrev pub checksum : List ℕ → List ℕ → ℕ
-checksum field body = sum (summed field body) % 256
+checksum field body = sum (summed_bytes field body) % 256
 
 -- the text with this length field, this body and these digits of a checksum
 abbrev pub stretch_of : List ℕ → List ℕ → List ℕ → List ℕ

@@ -6,5 +6,6 @@ pub mod Ring
 pub mod Cutting
 pub mod Inside
 pub mod Loans
+pub mod Owned
 pub mod Rows
 pub mod Printed

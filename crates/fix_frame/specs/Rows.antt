@@ -2,5 +2,5 @@
 use Rattle.std.specs.Prelude.{ℕ, List, map, if◌then◌else◌, ◌==◌}
 
 -- a text with byte 1 for each `|`
-abbrev pub piped : List ℕ → List ℕ
-piped text = map (λ c. if c == 124 then 1 else c) text
+abbrev pub row_bytes : List ℕ → List ℕ
+row_bytes text = map (λ c. if c == 124 then 1 else c) text

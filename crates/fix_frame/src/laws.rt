@@ -3,7 +3,7 @@
 ghost use Rattle.std.specs.Prelude.{◌≡◌, ℕ, ◌+◌, ◌<◌, ◌≤◌, ◌↔◌, List, [], ◌∷◌, ◌++◌, length, drop, codes, replicate, None, Some};
 ghost use Rattle.fix_frame.specs.Frame.{BeginsFrame, BeginsMissummed, IsBody, IsFrame, IsProperPrefix, IsStray, frame_of};
 ghost use Rattle.fix_frame.specs.Cut.{CutPiece, Found, IsCutSoFar, behind, cut, garbled, good, onto, piece_at};
-ghost use Rattle.fix_frame.specs.Rows.{piped};
+ghost use Rattle.fix_frame.specs.Rows.{row_bytes};
 
 use crate::layout::{FRAMING, LEAST_LIMIT, LONGEST_BODY, LONGEST_FRAME};
 
@@ -59,20 +59,20 @@ pub fn frames_have_bounds()
 
 /// Worked rows, in which `|` stands for byte 1.
 pub fn worked_rows()
-    ensures logon { frame_of (piped (codes "35=A|49=BUYER|56=GATE|34=1|52=20260105-09:30:00.000|98=0|108=30|"))
-        ≡ piped (codes "8=FIX.4.4|9=64|35=A|49=BUYER|56=GATE|34=1|52=20260105-09:30:00.000|98=0|108=30|10=148|") }
-    ensures leading_zeros { cut LONGEST_FRAME (piped (codes "8=FIX.4.4|9=000064|35=A|49=BUYER|56=GATE|34=1|52=20260105-09:30:00.000|98=0|108=30|10=084|"))
-        ≡ record { pieces = good (piped (codes "35=A|49=BUYER|56=GATE|34=1|52=20260105-09:30:00.000|98=0|108=30|")) ∷ []; rest = [] } }
-    ensures wrong_length { cut LONGEST_FRAME (piped (codes "8=FIX.4.4|9=65|35=A|49=BUYER|56=GATE|34=1|52=20260105-09:30:00.000|98=0|108=30|10=149|"))
+    ensures logon { frame_of (row_bytes (codes "35=A|49=BUYER|56=GATE|34=1|52=20260105-09:30:00.000|98=0|108=30|"))
+        ≡ row_bytes (codes "8=FIX.4.4|9=64|35=A|49=BUYER|56=GATE|34=1|52=20260105-09:30:00.000|98=0|108=30|10=148|") }
+    ensures leading_zeros { cut LONGEST_FRAME (row_bytes (codes "8=FIX.4.4|9=000064|35=A|49=BUYER|56=GATE|34=1|52=20260105-09:30:00.000|98=0|108=30|10=084|"))
+        ≡ record { pieces = good (row_bytes (codes "35=A|49=BUYER|56=GATE|34=1|52=20260105-09:30:00.000|98=0|108=30|")) ∷ []; rest = [] } }
+    ensures wrong_length { cut LONGEST_FRAME (row_bytes (codes "8=FIX.4.4|9=65|35=A|49=BUYER|56=GATE|34=1|52=20260105-09:30:00.000|98=0|108=30|10=149|"))
         ≡ record { pieces = replicate 86 (garbled 1); rest = [] } }
-    ensures wrong_sum { cut LONGEST_FRAME (piped (codes "8=FIX.4.4|9=58|35=D|49=BUYER|56=GATE|34=2|52=20260105-09:30:00.000|11=A1|10=149|"))
+    ensures wrong_sum { cut LONGEST_FRAME (row_bytes (codes "8=FIX.4.4|9=58|35=D|49=BUYER|56=GATE|34=2|52=20260105-09:30:00.000|11=A1|10=149|"))
         ≡ record { pieces = garbled 80 ∷ []; rest = [] } }
     // The least that can't become a frame is garbled at once, and the most that can waits.
-    ensures too_long { piece_at LONGEST_FRAME (piped (codes "8=FIX.4.4|9=65512")) ≡ Some (record { piece = garbled 1; size = 1 }) }
-    ensures longest { piece_at LONGEST_FRAME (piped (codes "8=FIX.4.4|9=65511")) ≡ None }
-    ensures too_short { piece_at LONGEST_FRAME (piped (codes "8=FIX.4.4|9=3|")) ≡ Some (record { piece = garbled 1; size = 1 }) }
-    ensures least { piece_at LONGEST_FRAME (piped (codes "8=FIX.4.4|9=4|35=|10=")) ≡ None }
-    ensures no_length { piece_at LONGEST_FRAME (piped (codes "8=FIX.4.4|9=000000000")) ≡ Some (record { piece = garbled 1; size = 1 }) }
-    ensures some_length { piece_at LONGEST_FRAME (piped (codes "8=FIX.4.4|9=00000000")) ≡ None }
-    ensures other_body { piece_at LONGEST_FRAME (piped (codes "8=FIX.4.4|9=4|36")) ≡ Some (record { piece = garbled 1; size = 1 }) }
+    ensures too_long { piece_at LONGEST_FRAME (row_bytes (codes "8=FIX.4.4|9=65512")) ≡ Some (record { piece = garbled 1; size = 1 }) }
+    ensures longest { piece_at LONGEST_FRAME (row_bytes (codes "8=FIX.4.4|9=65511")) ≡ None }
+    ensures too_short { piece_at LONGEST_FRAME (row_bytes (codes "8=FIX.4.4|9=3|")) ≡ Some (record { piece = garbled 1; size = 1 }) }
+    ensures least { piece_at LONGEST_FRAME (row_bytes (codes "8=FIX.4.4|9=4|35=|10=")) ≡ None }
+    ensures no_length { piece_at LONGEST_FRAME (row_bytes (codes "8=FIX.4.4|9=000000000")) ≡ Some (record { piece = garbled 1; size = 1 }) }
+    ensures some_length { piece_at LONGEST_FRAME (row_bytes (codes "8=FIX.4.4|9=00000000")) ≡ None }
+    ensures other_body { piece_at LONGEST_FRAME (row_bytes (codes "8=FIX.4.4|9=4|36")) ≡ Some (record { piece = garbled 1; size = 1 }) }
 {}

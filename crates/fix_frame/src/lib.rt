@@ -13,6 +13,6 @@ mod look;
 mod ring;
 mod write;
 
-pub use cutter::{Cutter, Piece};
+pub use cutter::{Cutter, OwnedPiece, Piece};
 pub use layout::{FRAMING, LEAST_LIMIT, LEAST_ROOM, LONGEST_BODY, LONGEST_FRAME};
 pub use write::{FrameError, frame_len, is_body, write_frame};

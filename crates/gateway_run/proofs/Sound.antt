@@ -16,7 +16,7 @@ use Rattle.gateway_run.specs.Turn.{EngineState, Input, in_engine, turn_with, acc
 use Rattle.gateway_run.proofs.Handled.{none_when}
 use Rattle.gateway_run.proofs.Named.{short_us, short_them}
 use Rattle.gateway_run.proofs.SoundLeaves.{bound_if}
-use Rattle.gateway_run.proofs.SoundSettles.{IsSettled, served_settles}
+use Rattle.gateway_run.proofs.SoundSettles.{CutsGoOn, IsSettled, served_settles}
 
 -- an engine as it is between two turns
 abbrev IsSettledIn : Option Names → Option SessionState → Option ConnectionState → Type 0
@@ -52,26 +52,26 @@ settled_accepted names (Some input) session None named settled = subst (λ (s : 
 settled_accepted names input session (Some k) named settled = settled
 
 -- a connection that ended is let be, and one that stands is served
-settled_if : (names : Option Names) (at : ℕ) (seen : Seen) (session : Option SessionState) (k : ConnectionState) (b : Bool) → is_some k.cause ≡ b → IsSettled names session k
+settled_if : CutsGoOn → (names : Option Names) (at : ℕ) (seen : Seen) (session : Option SessionState) (k : ConnectionState) (b : Bool) → is_some k.cause ≡ b → IsSettled names session k
     → IsSettledEngine names (in_engine at (if b then world session k else served at seen (world session k)))
-settled_if names at seen session k true e settled = settled
-settled_if names at seen session k false e settled = served_settles names at seen session k settled (none_when k.cause e)
+settled_if cuts names at seen session k true e settled = settled
+settled_if cuts names at seen session k false e settled = served_settles cuts names at seen session k settled (none_when k.cause e)
 
 -- a turn
-settled_turn : (names : Option Names) (at : ℕ) (seen : Seen) (session : Option SessionState) (connection : Option ConnectionState) → IsSettledIn names session connection
+settled_turn : CutsGoOn → (names : Option Names) (at : ℕ) (seen : Seen) (session : Option SessionState) (connection : Option ConnectionState) → IsSettledIn names session connection
     → IsSettledEngine names (turn_with at seen session connection)
-settled_turn names at seen session None settled = settled
-settled_turn names at seen session (Some k) settled = settled_if names at seen session k (is_some k.cause) refl settled
+settled_turn cuts names at seen session None settled = settled
+settled_turn cuts names at seen session (Some k) settled = settled_if cuts names at seen session k (is_some k.cause) refl settled
 
 -- a line of the script: only a turn changes the engine
-settled_step : (names : Option Names) (step : Step) (run : RunState) → AreNamesIn names → IsSettledEngine names run.engine → IsSettledEngine names (stepped step run).engine
-settled_step names Turn run named settled = settled_turn names _ _ run.engine.session _ (settled_accepted names run.input run.engine.session run.engine.connection named settled)
-settled_step names _ run named settled = settled
+settled_step : CutsGoOn → (names : Option Names) (step : Step) (run : RunState) → AreNamesIn names → IsSettledEngine names run.engine → IsSettledEngine names (stepped step run).engine
+settled_step cuts names Turn run named settled = settled_turn cuts names _ _ run.engine.session _ (settled_accepted names run.input run.engine.session run.engine.connection named settled)
+settled_step cuts names _ run named settled = settled
 
 -- lines, one after another
-settled_steps : (names : Option Names) (steps : List Step) (run : RunState) → AreNamesIn names → IsSettledEngine names run.engine → IsSettledEngine names (run_on steps run).engine
-settled_steps names [] run named settled = settled
-settled_steps names (step ∷ steps) run named settled = settled_steps names steps (stepped step run) named (settled_step names step run named settled)
+settled_steps : CutsGoOn → (names : Option Names) (steps : List Step) (run : RunState) → AreNamesIn names → IsSettledEngine names run.engine → IsSettledEngine names (run_on steps run).engine
+settled_steps cuts names [] run named settled = settled
+settled_steps cuts names (step ∷ steps) run named settled = settled_steps cuts names steps (stepped step run) named (settled_step cuts names step run named settled)
 
 -- ---- what a run leaves
 
@@ -144,9 +144,9 @@ first_named : (names : List Names) → All AreNames names → AreNamesIn (first_
 first_named [] named = tt
 first_named (names ∷ more) named = All-head AreNames names more named
 
-pub is_sound : (script : Script) → All AreNames script.config.names → IsSound (meaning script).engine
+pub is_sound : CutsGoOn → (script : Script) → All AreNames script.config.names → IsSound (meaning script).engine
 unfolding meaning
-is_sound script named =
+is_sound cuts script named =
     let engine = (run_on script.steps (run_before script)).engine in
     let names = first_names script.config.names in
-    sound_in names engine.session engine.connection engine.moment (settled_steps names script.steps (run_before script) (first_named script.config.names named) (first_settled script.config.names))
+    sound_in names engine.session engine.connection engine.moment (settled_steps cuts names script.steps (run_before script) (first_named script.config.names named) (first_settled script.config.names))

@@ -3,8 +3,7 @@ use Rattle.std.proofs.Common.{◌≡◌, ℕ, ◌+◌, List, ◌++◌, length, d
 use Rattle.std.specs.Prelude.{Option, None, Some}
 use Rattle.std.specs.Option.{is_some}
 use Rattle.std.proofs.Math.Seq.{drop-append_seam}
-use Rattle.fix_frame.specs.Cut.{CutPiece, Cut, cut}
-use Rattle.fix_frame.proofs.Cutting.{cut-append}
+use Rattle.fix_frame.specs.Cut.{CutPiece, Cut, cut, behind}
 use Rattle.script_text.specs.declared.causes.Cause.{Cause}
 use Rattle.script_text.specs.declared.causes.Cause.TheVariants.{End, ReadFault}
 use Rattle.script_text.specs.declared.config.Names.{Names}
@@ -16,6 +15,10 @@ use Rattle.gateway_run.proofs.SoundPasses.{past_all}
 use Rattle.gateway_run.proofs.SoundWritten.{IsFront, front_whole, front_share, front_all}
 use Rattle.gateway_run.proofs.SoundBrief.{IsBriefIn, IsBriefWorld, brief_all, brief_ended, brief_leave, brief_apart, brief_short}
 use Rattle.gateway_run.proofs.SoundLeaves.{SitsIn, sits_of, RestsIn, bound_if, rests_behind, leave_none}
+
+-- the cut of bytes goes on behind the pieces of a prefix with what is left of it
+abbrev pub CutsGoOn : Type 0
+CutsGoOn = (limit : ℕ) (first second : List ℕ) → cut limit (first ++ second) ≡ behind (cut limit first).pieces (cut limit ((cut limit first).rest ++ second))
 
 -- the pieces of what was taken
 abbrev pub pieces_of : List ℕ → List CutPiece
@@ -60,26 +63,26 @@ follow_apart (Some names) (Some s) k ds (bound n) taken size written f = record 
 follow_apart (Some names) (Some s) k ds over taken size written f = record { named = f.named; told = f.told; stands = f.stands }
 
 -- the pieces of all bytes are those of the first, and the new ones
-pieces_more : (taken bytes : List ℕ) → pieces_of (taken ++ bytes) ≡ pieces_of taken ++ new_pieces taken bytes
-pieces_more taken bytes =
+pieces_more : CutsGoOn → (taken bytes : List ℕ) → pieces_of (taken ++ bytes) ≡ pieces_of taken ++ new_pieces taken bytes
+pieces_more cuts taken bytes =
     let before = pieces_of taken in
     let later = (cut 65536 ((cut 65536 taken).rest ++ bytes)).pieces in
-    let all : pieces_of (taken ++ bytes) ≡ pieces_of taken ++ (cut 65536 ((cut 65536 taken).rest ++ bytes)).pieces = ap (λ (k : Cut). k.pieces) (cut-append 65536 taken bytes) in
+    let all : pieces_of (taken ++ bytes) ≡ pieces_of taken ++ (cut 65536 ((cut 65536 taken).rest ++ bytes)).pieces = ap (λ (k : Cut). k.pieces) (cuts 65536 taken bytes) in
     all ∙ ap (λ (l : List CutPiece). before ++ l) (sym (ap (λ (l : List CutPiece). drop (length before) l) all ∙ drop-append_seam before later))
 
 -- ---- each answer of a read
 
 -- bytes
-read_gave : (names : Option Names) (at : ℕ) (bytes : List ℕ) (session : Option SessionState) (k : ConnectionState) → IsSettled names session k → k.cause ≡ None
+read_gave : CutsGoOn → (names : Option Names) (at : ℕ) (bytes : List ℕ) (session : Option SessionState) (k : ConnectionState) → IsSettled names session k → k.cause ≡ None
     → IsRead names (read_on at (gave bytes) (world session k))
-read_gave names at bytes session k settled stands =
+read_gave cuts names at bytes session k settled stands =
     let before = pieces_of k.taken in
     let new = new_pieces k.taken bytes in
     let start : World = world session (record k { taken = k.taken ++ bytes }) in
     let follow = follow_apart names session k (asked names before) (reached names before) (k.taken ++ bytes) k.garbled k.written (settled.goes_on stands) in
     let past = past_all names at new start (asked names before) (reached names before) follow in
     let end = handle_all at new start in
-    let pieces : pieces_of (k.taken ++ bytes) ≡ before ++ new = pieces_more k.taken bytes in
+    let pieces : pieces_of (k.taken ++ bytes) ≡ before ++ new = pieces_more cuts k.taken bytes in
     let all : pieces_of end.connection.taken ≡ before ++ new = ap (λ (l : List ℕ). pieces_of l) past.taken ∙ pieces in
     let phases : reached names (before ++ new) ≡ phase_after names (reached names before) new = phase_append names unbound before new in
     let deeds : asked names (before ++ new) ≡ asked names before ++ deeds_of names (reached names before) new = deeds_append names unbound before new in
@@ -133,12 +136,12 @@ read_ended names cause session k settled stands =
     }
 
 -- whichever it is
-is_read : (names : Option Names) (at : ℕ) (seen : Seen) (session : Option SessionState) (k : ConnectionState) → IsSettled names session k → k.cause ≡ None
+is_read : CutsGoOn → (names : Option Names) (at : ℕ) (seen : Seen) (session : Option SessionState) (k : ConnectionState) → IsSettled names session k → k.cause ≡ None
     → IsRead names (read_on at seen (world session k))
-is_read names at (gave bytes) session k settled stands = read_gave names at bytes session k settled stands
-is_read names at input_ended session k settled stands = read_ended names End session k settled stands
-is_read names at blocked session k settled stands = read_none names session k settled stands
-is_read names at failed session k settled stands = read_ended names ReadFault session k settled stands
+is_read cuts names at (gave bytes) session k settled stands = read_gave cuts names at bytes session k settled stands
+is_read cuts names at input_ended session k settled stands = read_ended names End session k settled stands
+is_read cuts names at blocked session k settled stands = read_none names session k settled stands
+is_read cuts names at failed session k settled stands = read_ended names ReadFault session k settled stands
 
 -- ---- and then the connection leaves its session, if it ended, and a share is written
 
@@ -158,6 +161,6 @@ settles names w read =
     }
 
 -- a turn's work on a connection that stands
-pub served_settles : (names : Option Names) (at : ℕ) (seen : Seen) (session : Option SessionState) (k : ConnectionState) → IsSettled names session k → k.cause ≡ None
+pub served_settles : CutsGoOn → (names : Option Names) (at : ℕ) (seen : Seen) (session : Option SessionState) (k : ConnectionState) → IsSettled names session k → k.cause ≡ None
     → IsSettled names (served at seen (world session k)).session (served at seen (world session k)).connection
-served_settles names at seen session k settled stands = settles names (read_on at seen (world session k)) (is_read names at seen session k settled stands)
+served_settles cuts names at seen session k settled stands = settles names (read_on at seen (world session k)) (is_read cuts names at seen session k settled stands)

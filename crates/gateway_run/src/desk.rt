@@ -6,7 +6,7 @@ ghost use Rattle.gateway_run.specs.Session.{route, log_on, receive};
 
 use crate::session::{Act, Logon, Session, route};
 use crate::wire_text::wire_text;
-use fix_fields::{Builder, Fields};
+use fix_fields::{Builder, Fields, LONGEST_NAME};
 use gate_io::{Bytes, NoMemory, Rows};
 use itoa::Buffer;
 use script_text::{Cause, Entry, Holding, Names, OutEntry, SessionRecord};
@@ -25,20 +25,21 @@ pub struct Desk {
 
 impl Model for Desk {
     ghost use Rattle.std.specs.Prelude.{◌≤◌, length};
+    ghost use Rattle.fix_fields.specs.declared.limits.TheConstants.{LONGEST_NAME};
     ghost use Rattle.gateway_run.specs.Handling.{SessionState};
 
     ghost Value = { SessionState };
 
     ghost view = { λ d. record { names = d.names; expected = d.session.expected; entries = d.entries.items; inbound = d.inbound.items; outbound = d.outbound.items } };
 
-    ghost invariant = { λ d. (length d.names.us ≤ 32) × (length d.names.them ≤ 32) };
+    ghost invariant = { λ d. (length d.names.us ≤ LONGEST_NAME) × (length d.names.them ≤ LONGEST_NAME) };
 }
 
 impl Desk {
     /// A session of which nothing was heard.
     pub fn new(alloc: Global, names: Names) -> Desk
-        requires us { length names.us ≤ 32 }
-        requires them { length names.them ≤ 32 }
+        requires us { length names.us ≤ LONGEST_NAME }
+        requires them { length names.them ≤ LONGEST_NAME }
         ensures { result ≡ record { names = names; expected = 1; entries = []; inbound = []; outbound = [] } }
     {
         Desk {

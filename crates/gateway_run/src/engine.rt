@@ -3,7 +3,7 @@
 ghost use Rattle.std.specs.Prelude.{◌≡◌, ◌≤◌, ◌<◌, ◌+◌, ℕ, List, [], ◌∷◌, OnOk, IfOk, None, Some, length, vec_len, unwrap_or, false};
 ghost use Rattle.std.specs.Option.{is_some};
 ghost use Rattle.fix_frame.specs.Cut.{CutPiece, IsCutSoFar, cut};
-ghost use Rattle.fix_frame.specs.Cutting.{Cutting, free, seen};
+ghost use Rattle.fix_frame.specs.Cutting.{Cutting, free, lent_piece};
 ghost use Rattle.gate_io.specs.Wire.{IsOpen, WireGotWithin};
 ghost use Rattle.gate_io.specs.MemWire.{door_of, link_at, state_at};
 ghost use Rattle.gate_io.specs.StepClock.{clock_after};
@@ -140,8 +140,8 @@ fn handle(
     piece: Piece<'_>,
     at: u64,
 ) -> Result<(), NoMemory>
-    requires { (state.old).garbled + garbled_in (seen piece) ≤ length (state.old).taken }
-    ensures { OnOk result (world desk.new state.new ≡ handle_piece at (seen piece.entry) (world desk.old state.old)) }
+    requires { (state.old).garbled + garbled_in (lent_piece piece) ≤ length (state.old).taken }
+    ensures { OnOk result (world desk.new state.new ≡ handle_piece at (lent_piece piece.entry) (world desk.old state.old)) }
 {
     match piece {
         Piece::Garbled { length } => {

@@ -6,7 +6,7 @@ ghost use Rattle.std.specs.Prelude.{◌≡◌, ◌≤◌, ◌++◌, ◌∷◌, [
 ghost use Rattle.fix_frame.specs.Frame.{IsBody, frame_of};
 ghost use Rattle.gateway_run.specs.Outbound.{first_field, behind_first_field, wire_body_of};
 
-use fix_fields::stamp_text;
+use fix_fields::{LONGEST_APPLICATION_BODY, LONGEST_NAME, stamp_text};
 use fix_frame::{FrameError, write_frame};
 use gate_io::{LAST_MOMENT, NoMemory};
 use itoa::Buffer;
@@ -16,8 +16,8 @@ use std::alloc::Global;
 /// SOH, which ends each field.
 const SOH: u8 = 1;
 
-/// The text of an outbound message on its connection. A logged body has at most 8,192 bytes, and a
-/// name 32, so its frame is never too long.
+/// The text of an outbound message on its connection. The limits of a logged body and of a
+/// name are such that its frame is never too long.
 pub fn wire_text(
     alloc: Global,
     number: u64,
@@ -25,9 +25,9 @@ pub fn wire_text(
     names: &Names,
 ) -> Result<Vec<u8>, NoMemory>
     requires is_body { IsBody entry.now.body }
-    requires short { length entry.now.body ≤ 8192 }
-    requires us { length names.now.us ≤ 32 }
-    requires them { length names.now.them ≤ 32 }
+    requires short { length entry.now.body ≤ LONGEST_APPLICATION_BODY }
+    requires us { length names.now.us ≤ LONGEST_NAME }
+    requires them { length names.now.them ≤ LONGEST_NAME }
     ensures { IfOk result (λ text. text.items ≡ frame_of (wire_body_of names.now number entry.now)) }
 {
     let body = wire_body(alloc, number, entry, names)?;

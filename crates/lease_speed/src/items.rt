@@ -1,7 +1,7 @@
 //! Items that say which they are.
 ghost use Rattle.std.specs.Prelude.{◌≡◌, IfSome};
 
-use fix_fields::check_body;
+use fix_fields::{LONGEST_APPLICATION_BODY, check_body};
 use gate_io::Bytes;
 use lease_words::Item;
 use std::alloc::Global;
@@ -13,7 +13,7 @@ const NUMBERS: u64 = 100_000_000;
 fn new_item(alloc: Global, lease: u32, library: u8, number: u32) -> Option<Item> {
     let tag = u64::from(library) * NUMBERS + u64::from(number);
     let body = format!(in alloc; "35=8\x0137={tag}\x01").ok()?.into_bytes();
-    if body.len() > 8192 || check_body(body.as_slice()).is_err() {
+    if body.len() > LONGEST_APPLICATION_BODY || check_body(body.as_slice()).is_err() {
         return None;
     }
     let body = Bytes::of(body);

@@ -11,7 +11,6 @@ use Rattle.lease_core.specs.declared.word.Word.{Word}
 use Rattle.lease_core.specs.State.{last_or}
 use Rattle.lease_core.specs.Lines.{no_line, word_of, IsShown, raised}
 use Rattle.lease_core.specs.Word.{word_in}
-use Rattle.lease_core.proofs.WordsShown.{words_shown}
 use Rattle.lease_words.specs.declared.item.Item.{Item}
 use Rattle.lease_words.specs.declared.view.LibraryLease.{LibraryLease}
 use Rattle.lease_words.specs.declared.view.Shape.{Shape}
@@ -26,7 +25,7 @@ use Rattle.lease_words.specs.Sees.{after_look}
 use Rattle.lease_words.specs.Facts.{Lane, Session, IsLane, IsSession, EngineFits, LibraryFits}
 use Rattle.lease_words.specs.Rule.{Ruled, SlotsFit}
 use Rattle.lease_words.specs.Tells.{HasLooked, IsSettled, engine_numbers, numbers_after_look}
-use Rattle.lease_words.proofs.Lines.{raised_follows, follows_length, follows_last, shown_not_newer}
+use Rattle.lease_words.proofs.Lines.{raised_follows, follows_length, follows_last, shown_not_newer, words_shown}
 use Rattle.lease_words.proofs.Totals.{granted_total, granted_none, last_here, HasGrown, follows_grown}
 use Rattle.lease_words.proofs.Places.{updated_all, words_lease}
 use Rattle.lease_words.proofs.Seats.{each_map, with_session, ForLibrary, library_fits_still, engine_moves, engine_mine}

@@ -25,8 +25,7 @@ use Rattle.lease_words.specs.Facts.{Lane, Session, IsLane, LibraryFits}
 use Rattle.lease_words.specs.Views.{base_of, library_session, with_library_session, library_view}
 use Rattle.lease_words.specs.Rule.{Ruled, LibraryKnowsSo}
 use Rattle.lease_words.specs.Tells.{LibraryNumbers, library_numbers, HasFoundWord, SeeOf, ReleaseOf, HasLost, Seated, SeeTells, ReleaseTells, held_word}
-use Rattle.lease_core.proofs.WordsShown.{words_shown}
-use Rattle.lease_words.proofs.Lines.{shown_not_newer, if_true, if_false, GoesOn, shown_on, get_push_here, word_of_push, word_parts}
+use Rattle.lease_words.proofs.Lines.{shown_not_newer, if_true, if_false, GoesOn, shown_on, get_push_here, word_of_push, word_parts, words_shown}
 use Rattle.lease_words.proofs.Lanes.{lane_seen, lane_given}
 use Rattle.lease_words.proofs.Places.{session-lease_word}
 use Rattle.lease_words.proofs.Seats.{each_map}

@@ -24,9 +24,8 @@ use Rattle.lease_words.specs.Sees.{after_loss}
 use Rattle.lease_words.specs.Facts.{Lane, Session, IsLane, IsSession, Follows, LibraryFits, one_if}
 use Rattle.lease_words.specs.Rule.{Truth, Ruled, WordsFit, SlotsFit, LibraryKnowsSo}
 use Rattle.lease_words.specs.Tells.{HasLost, LibraryNumbers, held_word}
-use Rattle.lease_core.proofs.WordsShown.{words_shown}
 use Rattle.lease_words.proofs.LibraryHolds.{lost_word, lost_count, found_other, HasLast, found_held}
-use Rattle.lease_words.proofs.Lines.{GoesOn, shown_on, follows_on, lines_on, shown_not_newer}
+use Rattle.lease_words.proofs.Lines.{GoesOn, shown_on, follows_on, lines_on, shown_not_newer, words_shown}
 use Rattle.lease_words.proofs.Lanes.{lane_on, lane_lost}
 use Rattle.lease_words.proofs.Places.{updated, updated_all, updated_here, updated_else, words_stay, words_lease, slots_stay, slots_else, Homes}
 use Rattle.lease_words.proofs.Seats.{each_map, with_session, ForLibrary, ForEngine, LaneForEngine, library_moves}

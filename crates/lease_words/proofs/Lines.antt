@@ -17,7 +17,6 @@ use Rattle.lease_core.specs.declared.word.Word.{Word}
 use Rattle.lease_core.specs.State.{last_or, with_last, owner_in}
 use Rattle.lease_core.specs.Lines.{no_line, word_by, word_of, IsShown, raised, FitsLine, raised_line, raises, ending_by, heir_named, shown_owner, standing_of}
 use Rattle.lease_core.specs.Word.{word_in, number_of, HasBothFlags}
-use Rattle.lease_core.proofs.Lasts.{last_or_push, with_last_push}
 use Rattle.lease_core.proofs.Words.{word_in-number, number-word_in}
 use Rattle.lease_words.specs.Leases.{FitsHeir, is_active, runs, is_running, IsLineOf, AreLines, IsNotOlder, sends_of, total}
 use Rattle.lease_words.specs.Views.{granted_lines}
@@ -26,9 +25,20 @@ use Rattle.lease_words.specs.Facts.{Follows}
 pub length_push : (front : List Line) (x : Line) → length (front ++ x ∷ []) ≡ suc (length front)
 length_push front x = omega (arith, length-append front (x ∷ []))
 
+-- the last one of a list, and the list with its last one changed
+module _ {X : Type 0} where
+  pub last_of_push : (d : X) (front : List X) (x : X) → last_or d (front ++ x ∷ []) ≡ x
+  last_of_push d [] x = refl
+  last_of_push d (y ∷ ys) x = last_of_push y ys x
+
+  pub with_last_of_push : (f : X → X) (front : List X) (x : X) → with_last f (front ++ x ∷ []) ≡ front ++ f x ∷ []
+  with_last_of_push f [] x = refl
+  with_last_of_push f (y ∷ []) x = refl
+  with_last_of_push f (y ∷ z ∷ zs) x = ap (λ ws. y ∷ ws) (with_last_of_push f (z ∷ zs) x)
+
 pub running_of_push : (front : List Line) (x : Line) → is_running (front ++ x ∷ []) ≡ runs x.ending
 running_of_push [] x = refl
-running_of_push (y ∷ ys) x = ap (λ (l : Line). runs l.ending) (last_or_push y ys x)
+running_of_push (y ∷ ys) x = ap (λ (l : Line). runs l.ending) (last_of_push y ys x)
 
 -- of the numbers below two ends, the last one is told from those before it
 pub split_last : (C : Type 0) (k n : ℕ) → (suc k < n → C) → (suc k ≡ n → C) → (n ≤ k → C) → C
@@ -49,19 +59,35 @@ as_front [] some = absurd (omega arith)
 as_front (x ∷ []) some = ([], x, refl)
 as_front (x ∷ y ∷ ys) some = let f = as_front (y ∷ ys) (omega arith) in (x ∷ f.0, f.1, ap (λ ls. x ∷ ls) f.2)
 
-pub last_of_push : (d : Line) (front : List Line) (x : Line) → last_or d (front ++ x ∷ []) ≡ x
-last_of_push d front x = last_or_push d front x
-
 pub word_of_push : (front : List Line) (x : Line) → word_of (front ++ x ∷ []) ≡ word_by (suc (length front)) x
-word_of_push front x = let n : length (front ++ x ∷ []) ≡ suc (length front) = length_push front x in rw (n, last_or_push no_line front x) refl
-
-pub with_last_of_push : (f : Line → Line) (front : List Line) (x : Line) → with_last f (front ++ x ∷ []) ≡ front ++ f x ∷ []
-with_last_of_push f front x = with_last_push f front x
+word_of_push front x = let n : length (front ++ x ∷ []) ≡ suc (length front) = length_push front x in rw (n, last_of_push no_line front x) refl
 
 -- where a place of a list with one more is
 pub get_push_here : (front : List Line) (x : Line) → slice_get (front ++ x ∷ []) (length front) ≡ Some x
 get_push_here [] x = refl
 get_push_here (y ∷ ys) x = get_push_here ys x
+
+-- the last of a list stands at its last place
+last_at : (d : Line) (l : Line) (ls : List Line) → slice_get (l ∷ ls) (length ls) ≡ Some (last_or d (l ∷ ls))
+last_at d l [] = refl
+last_at d l (k ∷ ks) = last_at d k ks
+
+fits_own : (ending : Ending) (l : Line) → l.ending ≡ ending → FitsLine (standing_of ending) (shown_owner ending l.library) l.sends l
+fits_own Running l is = (refl, omega arith)
+fits_own (GivenBack heir) l is = (ap standing_of is, refl, ap (λ e. shown_owner e l.library) (sym is))
+fits_own TakenBack l is = (is, refl, refl)
+
+-- the word that lines stand for is shown by them
+pub words_shown : (lines : List Line) → IsShown lines (word_of lines)
+words_shown [] = inl refl
+words_shown (l ∷ ls) = inr (
+  last_or no_line (l ∷ ls),
+  record {
+    lease = omega arith;
+    line = let place : length (l ∷ ls) - 1 ≡ length ls = omega arith in rw place (last_at no_line l ls);
+    fits = fits_own (last_or no_line (l ∷ ls)).ending (last_or no_line (l ∷ ls)) refl;
+  },
+)
 
 pub get_push_before : (front : List Line) (x l : Line) (k : ℕ) → slice_get front k ≡ Some l → slice_get (front ++ x ∷ []) k ≡ Some l
 get_push_before [] x l k at = absurd (let e : None ≡ Some l = at in cc)
@@ -132,13 +158,13 @@ unfolding raised
 raised_on front was now ran whose more known ending =
     let w = word_by (suc (length front)) now in
     let some : 1 ≤ was.library = let f = known.from_one in omega arith in
-    let news : raises (front ++ was ∷ []) w ≡ true = rw (length_push front was, last_or_push no_line front was) (raises_on (suc (length front)) (suc (length front)) was now refl ran some more) in
+    let news : raises (front ++ was ∷ []) w ≡ true = rw (length_push front was, last_of_push no_line front was) (raises_on (suc (length front)) (suc (length front)) was now refl ran some more) in
     let line : raised_line w was ≡ now = let e = ending_on was now ran whose known ending in
     ap (λ e. record { library = was.library; sends = now.sends; ending = e }) e
     ∙ ap (λ k. record { library = k; sends = now.sends; ending = now.ending }) (sym whose) in
     ap (λ v. raised (front ++ was ∷ []) v) (word_of_push front now)
     ∙ (if_true (raises (front ++ was ∷ []) w) (with_last (raised_line w) (front ++ was ∷ [])) (front ++ was ∷ []) news
-    ∙ (with_last_push (raised_line w) front was ∙ ap (λ l. front ++ l ∷ []) line))
+    ∙ (with_last_of_push (raised_line w) front was ∙ ap (λ l. front ++ l ∷ []) line))
 
 -- what the engine sees makes its lines the session's
 pub raised_follows : (base libraries : ℕ) (shown lines : List Line) → Follows shown lines → AreLines base libraries lines → raised shown (word_of lines) ≡ lines
@@ -160,20 +186,20 @@ follows_length shown lines (inr on) = ap length on.before ∙ (length_push on.fr
 
 pub follows_last : (shown lines : List Line) → Follows shown lines → ((last_or no_line shown).library ≡ (last_or no_line lines).library) × ((last_or no_line shown).sends ≤ (last_or no_line lines).sends)
 follows_last shown lines (inl same) = rw same (refl, omega arith)
-follows_last shown lines (inr on) = rw (on.before, on.after, last_or_push no_line on.front on.was, last_or_push no_line on.front on.now) (sym on.whose, on.more)
+follows_last shown lines (inr on) = rw (on.before, on.after, last_of_push no_line on.front on.was, last_of_push no_line on.front on.now) (sym on.whose, on.more)
 
 -- a last line that goes on still follows what the engine saw
 pub follows_on : (shown front : List Line) (x y : Line) → Follows shown (front ++ x ∷ []) → GoesOn x y → (y.ending ≡ Running) ⊎ ((heir : ℕ) × (y.ending ≡ GivenBack heir)) → Follows shown (front ++ y ∷ [])
 follows_on shown front x y (inl same) on ending = inr (record { front = front; was = x; now = y; before = same; after = refl; whose = on.whose; ran = on.ran; more = on.more; kept_or_given = ending })
 follows_on shown front x y (inr was) on ending =
-    let last : x ≡ was.now = sym (last_or_push no_line front x) ∙ (ap (last_or no_line) was.after ∙ last_or_push no_line was.front was.now) in
+    let last : x ≡ was.now = sym (last_of_push no_line front x) ∙ (ap (last_or no_line) was.after ∙ last_of_push no_line was.front was.now) in
     let more : was.was.sends ≤ y.sends = let e : x.sends ≡ was.now.sends = ap (λ (l : Line). l.sends) last in omega (arith, e, was.more, on.more) in
     inr (record {
       front = was.front;
       was = was.was;
       now = y;
       before = was.before;
-      after = sym (with_last_push (λ _. y) front x) ∙ (ap (with_last (λ _. y)) was.after ∙ with_last_push (λ _. y) was.front was.now);
+      after = sym (with_last_of_push (λ _. y) front x) ∙ (ap (with_last (λ _. y)) was.after ∙ with_last_of_push (λ _. y) was.front was.now);
       whose = on.whose ∙ (ap (λ (l : Line). l.library) last ∙ was.whose);
       ran = was.ran;
       more = more;

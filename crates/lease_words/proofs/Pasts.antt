@@ -20,18 +20,9 @@ use Rattle.lease_core.specs.Lines.{no_line, word_of, line_of, lines_of}
 use Rattle.lease_words.specs.Leases.{Each, FitsHeir, is_running, runs}
 use Rattle.lease_words.specs.Registries.{IsEndedLine, AreEnded, AreCounted, IsEndedJournal, kept_lines, ended_line, ended_lines}
 use Rattle.lease_words.proofs.Shows.{owner_within}
-use Rattle.lease_words.proofs.Lines.{running_of_push}
+use Rattle.lease_words.proofs.Lines.{last_of_push, running_of_push, with_last_of_push}
 
 -- lists that end in a lease
-last_pushed : (d : Lease) (front : List Lease) (l : Lease) → last_or d (front ++ l ∷ []) ≡ l
-last_pushed d [] l = refl
-last_pushed d (x ∷ xs) l = last_pushed x xs l
-
-with_last_pushed : (f : Lease → Lease) (front : List Lease) (l : Lease) → with_last f (front ++ l ∷ []) ≡ front ++ f l ∷ []
-with_last_pushed f [] l = refl
-with_last_pushed f (x ∷ []) l = refl
-with_last_pushed f (x ∷ y ∷ ys) l = ap (λ (ls : List Lease). x ∷ ls) (with_last_pushed f (y ∷ ys) l)
-
 map_pushed : (front : List Lease) (l : Lease) → map line_of (front ++ l ∷ []) ≡ map line_of front ++ line_of l ∷ []
 map_pushed [] l = refl
 map_pushed (x ∷ xs) l = ap (λ (ls : List Line). line_of x ∷ ls) (map_pushed xs l)
@@ -68,7 +59,7 @@ owner_by TakenBack library ran one = absurd (let no_end : TakenBack ≡ Running 
 
 -- the last lease of a state at which one is active
 last_is : (built : List Line) (s : State) (r : Runs built s) → last_lease s.leases ≡ r.last
-last_is built s r = ap last_lease r.leases ∙ last_pushed no_lease r.front r.last
+last_is built s r = ap last_lease r.leases ∙ last_of_push no_lease r.front r.last
 
 runs_owned : (built : List Line) (s : State) → Runs built s → 0 < owner_of s
 runs_owned built s r = subst (λ (l : Lease). 0 < owner_in l.ending l.library) (sym (last_is built s r)) (owner_by r.last.ending r.last.library r.ran r.whose.from_one)
@@ -118,11 +109,11 @@ ends : (built : List Line) (s s' : State) (ending : Ending) (r : Runs built s) �
 ends built s s' ending r after over heir nobody =
     let last = last_is built s r in
     let line : Line = record { library = (last_lease s.leases).library; sends = (last_lease s.leases).sends; ending = ending } in
-    let leases : s'.leases ≡ r.front ++ lease_with_ending ending r.last ∷ [] = after ∙ (ap (with_last (lease_with_ending ending)) r.leases ∙ with_last_pushed (lease_with_ending ending) r.front r.last) in
+    let leases : s'.leases ≡ r.front ++ lease_with_ending ending r.last ∷ [] = after ∙ (ap (with_last (lease_with_ending ending)) r.leases ∙ with_last_of_push (lease_with_ending ending) r.front r.last) in
     record {
       ends = each_push built line r.ends (record { ended = over; whose = subst (λ (l : Lease). IsLibrary l.library) (sym last) r.whose; heir = heir });
       lines = ap (map line_of) leases ∙ (map_pushed r.front (lease_with_ending ending r.last) ∙ (λ j. r.lines j ++ record { library = (sym last j).library; sends = (sym last j).sends; ending = ending } ∷ []));
-      none = ap (λ (ls : List Lease). owner_in (last_lease ls).ending (last_lease ls).library) leases ∙ (ap (λ (l : Lease). owner_in l.ending l.library) (last_pushed no_lease r.front (lease_with_ending ending r.last)) ∙ nobody r.last.library);
+      none = ap (λ (ls : List Lease). owner_in (last_lease ls).ending (last_lease ls).library) leases ∙ (ap (λ (l : Lease). owner_in l.ending l.library) (last_of_push no_lease r.front (lease_with_ending ending r.last)) ∙ nobody r.last.library);
     }
 
 -- what was active at an event that only an active lease has
@@ -143,7 +134,7 @@ happens limit s built (Requests library nr from) can at = requested limit s buil
 happens limit s built Sends can at =
     let r = running built s can at in
     subst (λ (b : List Line). IsAt b (state_after s (step limit s Sends))) (sym (append-nil built))
-    (inr (record { ends = r.ends; front = r.front; last = lease_with_send r.last; leases = ap (with_last lease_with_send) r.leases ∙ with_last_pushed lease_with_send r.front r.last; lines = r.lines; ran = r.ran; whose = r.whose }))
+    (inr (record { ends = r.ends; front = r.front; last = lease_with_send r.last; leases = ap (with_last lease_with_send) r.leases ∙ with_last_of_push lease_with_send r.front r.last; lines = r.lines; ran = r.ran; whose = r.whose }))
 happens limit s built (Releases heir) can at =
     inl (ends built s (state_after s (step limit s (Releases heir))) (GivenBack heir) (running built s can.0 at) refl refl (can.1.to_last, can.1.other) (λ _. refl))
 happens limit s built TimesOut can at = inl (ends built s (state_after s (step limit s TimesOut)) TakenBack (running built s can at) refl refl tt (λ _. refl))

@@ -24,8 +24,7 @@ use Rattle.lease_words.specs.Facts.{Lane, Session, IsLane, LibraryFits, one_if}
 use Rattle.lease_words.specs.Views.{base_of, library_session, no_library_session, with_library_session, library_view}
 use Rattle.lease_words.specs.Rule.{Ruled, LibraryKnowsSo, SlotsFit}
 use Rattle.lease_words.specs.Tells.{HasLost, HasSent, HasFoundTaken, is_refused, ClaimOf, CommitOf, Seated, ClaimTells, CommitTells, HandBackTells, held_word}
-use Rattle.lease_core.proofs.WordsShown.{words_shown}
-use Rattle.lease_words.proofs.Lines.{GoesOn, shown_on, word_of_push, word_parts, total_small}
+use Rattle.lease_words.proofs.Lines.{GoesOn, shown_on, word_of_push, word_parts, total_small, words_shown}
 use Rattle.lease_words.proofs.Lanes.{lane_sent}
 use Rattle.lease_words.proofs.Places.{session-lease_word, session-taken_word, slot_within, slots_filled, slots_unused, slots_claim}
 use Rattle.lease_words.proofs.Seats.{each_map}

@@ -4,7 +4,7 @@ use Rattle.lease_core.specs.declared.lease.Ending.{Ending}
 use Rattle.lease_core.specs.declared.lease.Ending.TheVariants.{Running, GivenBack, TakenBack}
 use Rattle.lease_core.specs.declared.lease.Line.{Line}
 use Rattle.lease_core.specs.declared.word.Word.{Word}
-use Rattle.lease_core.proofs.WordsShown.{words_showable, words_can_time_out}
+use Rattle.lease_core.specs.Laws.{WordsAreShowable, WordsCanTimeOut}
 use Rattle.lease_core.specs.State.{owner_in, with_last}
 use Rattle.lease_core.specs.Lines.{no_line, word_of, raised, taken_back, taken_back_line, standing_of, shown_owner}
 use Rattle.lease_words.specs.declared.view.Shape.{Shape}
@@ -51,16 +51,16 @@ module _ (k : Shape) (s : ℕ) (es : EngineSession) (w : Word) (ls : List Librar
   few_of : HasLooked k s es w ls → w.owner ≤ 16
   few_of look = subst (λ (v : Word). v.owner ≤ 16) look.is (owner_few es.base k.libraries (raised es.lines w) look.are_lines)
 
-  pub look_shows : HasLooked k s es w ls → IsShowable es.lines w
-  look_shows look = words_showable es.lines w look.is (few_of look)
+  pub look_shows : WordsAreShowable → HasLooked k s es w ls → IsShowable es.lines w
+  look_shows showable look = showable es.lines w look.is (few_of look)
 
-  pub revoke_times_out : HasRevoked k s es w ls → is_running es.lines ≡ true → CanTimeOut es.lines w
-  revoke_times_out told ran =
+  pub revoke_times_out : WordsCanTimeOut → HasRevoked k s es w ls → is_running es.lines ≡ true → CanTimeOut es.lines w
+  revoke_times_out can_time_out told ran =
       let look = told.look in
       let size : length (raised es.lines w) ≡ length es.lines = ap (λ (n : EngineNumbers). n.lease) look.numbers in
       let whose : (last_line (raised es.lines w)).library ≡ (last_line es.lines).library = ap (λ (n : EngineNumbers). n.library) look.numbers in
       let known = last_known es.base k.libraries (raised es.lines w) look.are_lines (let some = some_line es.lines ran in omega arith) in
-      words_can_time_out es.lines w look.is (few_of look) (is_owned es.lines ran (subst (λ (n : ℕ). 1 ≤ n) whose known.from_one))
+      can_time_out es.lines w look.is (few_of look) (is_owned es.lines ran (subst (λ (n : ℕ). 1 ≤ n) whose known.from_one))
 
 -- behind a revoke no lease is active
 ended_last : (lines : List Line) → runs (last_line lines).ending ≡ false → is_running lines ≡ false

@@ -6,6 +6,7 @@ use Rattle.lease_core.specs.declared.lease.Line.{Line}
 use Rattle.lease_core.specs.declared.word.Standing.{Standing}
 use Rattle.lease_core.specs.declared.word.Standing.TheVariants.{Active, Released, Revoked}
 use Rattle.lease_core.specs.declared.word.Word.{Word}
+use Rattle.lease_core.specs.declared.limits.TheConstants.{MOST_LIBRARIES}
 use Rattle.lease_core.specs.Lines.{no_line}
 use Rattle.lease_core.specs.State.{last_or}
 use Rattle.lease_words.specs.declared.view.LibraryLease.{LibraryLease}
@@ -136,7 +137,7 @@ pub record AreLines (base libraries : ℕ) (lines : List Line) : Type 0 where
   pub based : base ≤ length lines
   pub few : length lines < 2 ^ 24
   pub ended : (k : ℕ) (l : Line) → slice_get lines k ≡ Some l → (suc k < length lines) ⊎ (k < base) → runs l.ending ≡ false
-  pub known : (k : ℕ) (l : Line) → slice_get lines k ≡ Some l → IsLineOf 16 l
+  pub known : (k : ℕ) (l : Line) → slice_get lines k ≡ Some l → IsLineOf MOST_LIBRARIES l
   pub here : (k : ℕ) (l : Line) → slice_get lines k ≡ Some l → base ≤ k → IsLineOf libraries l
 
 -- b isn't an older word than a: its lease isn't smaller, on the same lease its count isn't, and what has ended stays as it is

@@ -4,7 +4,7 @@ use Rattle.lease_core.specs.declared.entry.Entry.{Entry}
 use Rattle.lease_core.specs.declared.entry.Entry.TheVariants.{Release, Timeout}
 use Rattle.lease_core.specs.declared.lease.Ending.TheVariants.{GivenBack, TakenBack}
 use Rattle.lease_core.specs.declared.lease.Line.{Line}
-use Rattle.lease_core.specs.declared.limits.TheConstants.{MOST_LEASES}
+use Rattle.lease_core.specs.declared.limits.TheConstants.{MOST_LEASES, MOST_LIBRARIES}
 use Rattle.lease_core.specs.Kept.{Kept}
 use Rattle.lease_core.specs.Lines.{lines_of}
 use Rattle.lease_words.specs.Leases.{Each, IsLineOf, is_running, runs}
@@ -25,7 +25,7 @@ pub record IsEndedJournal (journal : Kept) : Type 0 where
 -- a lease that has ended
 pub record IsEndedLine (l : Line) : Type 0 where
   pub ended : runs l.ending ≡ false
-  pub known : IsLineOf 16 l
+  pub known : IsLineOf MOST_LIBRARIES l
 
 -- the lines of a session of which no lease is active
 pub record AreEnded (lines : List Line) : Type 0 where

@@ -4,9 +4,11 @@ use mathlib.Core.Option.{some}
 use mathlib.Core.Option as place
 use lib.ListN.{get_elem?}
 use Rattle.atomic_table.specs.Table.{State}
+use Rattle.lease_core.specs.declared.limits.TheConstants.{MOST_LIBRARIES}
 use Rattle.lease_core.specs.Lines.{word_of}
 use Rattle.lease_core.specs.Word.{word_in}
 use Rattle.lease_words.specs.declared.item.Item.{Item}
+use Rattle.lease_words.specs.declared.layout.TheConstants.{LANE_SLOTS}
 use Rattle.lease_words.specs.declared.view.Shape.{Shape}
 use Rattle.lease_words.specs.declared.view.EngineKnows.{EngineKnows}
 use Rattle.lease_words.specs.declared.view.LibraryKnows.{LibraryKnows}
@@ -26,9 +28,9 @@ pub record Truth : Type 0 where
 -- the limits of a table
 pub record IsShape (k : Shape) : Type 0 where
   pub sessions : k.sessions ≤ 64
-  pub libraries : k.libraries ≤ 16
+  pub libraries : k.libraries ≤ MOST_LIBRARIES
   pub some_depth : 1 ≤ k.depth
-  pub depth : k.depth ≤ 16
+  pub depth : k.depth ≤ LANE_SLOTS
   pub some_sends : 1 ≤ k.sends
   pub sends : k.sends < 2 ^ 32
 
@@ -45,7 +47,7 @@ pub record WordsFit (k : Shape) (words : List ℕ) (t : Truth) : Type 0 where
 -- home and empty, but the next one while it is being filled.
 pub record SlotsFit (k : Shape) (homes : List (place.Option (Option Item))) (s library : ℕ) (lane : Lane) : Type 0 where
   pub filled : (p : ℕ) (x : Item) → lane.taken + lane.emptying ≤ p → get_elem? lane.items p ≡ some x → get_elem? homes (slot_of k.libraries s library p) ≡ some (some (Some x))
-  pub vacant : (p : ℕ) → length lane.items + lane.filling ≤ p → p < lane.taken + 16 → get_elem? homes (slot_of k.libraries s library p) ≡ some (some None)
+  pub vacant : (p : ℕ) → length lane.items + lane.filling ≤ p → p < lane.taken + LANE_SLOTS → get_elem? homes (slot_of k.libraries s library p) ≡ some (some None)
 
 -- what the engine knows is so, and its seat is this one
 pub record EngineKnowsSo (k : Shape) (t : Truth) (seat : ℕ) (e : EngineKnows) : Type 0 where

@@ -9,6 +9,7 @@ use Rattle.lease_words.specs.declared.view.View.{View}
 use Rattle.lease_words.specs.declared.rows.EngineRow.{EngineRow}
 use Rattle.lease_words.specs.declared.rows.LibraryRow.{LibraryRow}
 use Rattle.lease_core.specs.declared.lease.Line.{Line}
+use Rattle.lease_core.specs.declared.limits.TheConstants.{MOST_LIBRARIES}
 use Rattle.lease_core.specs.Lines.{word_of}
 use Rattle.lease_core.specs.Word.{word_in}
 use Rattle.lease_words.specs.declared.outset.Outset.{Outset}
@@ -42,7 +43,7 @@ pub record IsEngine (s : Seat (Option Item) View) (rows : List EngineRow) : Type
   pub idle : s.me.0.knows.taking ≡ 0
   pub rows_are : rows ≡ map engine_row s.me.0.knows.sessions
   pub count : length s.me.0.knows.sessions ≡ s.me.0.shape.sessions
-  pub known : (i : ℕ) → i < s.me.0.shape.sessions → last_library (engine_session s.me.0.knows i) ≤ 16
+  pub known : (i : ℕ) → i < s.me.0.shape.sessions → last_library (engine_session s.me.0.knows i) ≤ MOST_LIBRARIES
 
 -- the row of a session whose leases are from before the table
 abbrev pub first_row : List Line → EngineRow
@@ -74,7 +75,7 @@ pub record IsLibrary (s : Seat (Option Item) View) (number beats : ℕ) (rows : 
   pub count : length (first_library s.me.0.libraries).sessions ≡ s.me.0.shape.sessions
   pub few : Each CountsFit (first_library s.me.0.libraries).sessions
   pub from_one : 1 ≤ number
-  pub to_last : number ≤ 16
+  pub to_last : number ≤ MOST_LIBRARIES
   pub within : number ≤ s.me.0.shape.libraries
 
 -- seats that have done nothing

@@ -14,6 +14,7 @@ ghost use Rattle.lease_words.specs.Tells.{IsSettled};
 
 use crate::engine_seat::EngineSeat;
 use crate::item::Item;
+use crate::laws::word_laws;
 use crate::layout::{beat_word, lease_word, published_word, slot_of, taken_word};
 use crate::leases::Leases;
 use crate::plays::{Fetch, Grant, Listen, Look, Publish, Revoke, Vacate};
@@ -54,6 +55,7 @@ impl Leases {
             .load::<Look>(&mut seat.seat, lease_word(s));
         let word = read_word(n);
         seat.rows[s as usize].see(word.count);
+        word_laws();
         word
     }
 
@@ -86,6 +88,7 @@ impl Leases {
         let word = read_word(n);
         let sent = word.count;
         seat.rows[s as usize].see(sent);
+        word_laws();
         word
     }
 

@@ -22,5 +22,6 @@ mod view;
 pub use engine_seat::EngineSeat;
 pub use item::{Item, Lost, SendError, Sent};
 pub use laws::settled_lanes_are_taken;
+pub use layout::LANE_SLOTS;
 pub use leases::Leases;
 pub use library_seat::LibrarySeat;

@@ -7,7 +7,7 @@ ghost use Rattle.lease_words.specs.Views.{engine_at, pending, first_library, oth
 ghost use Rattle.lease_words.specs.Tokens.{IsOutset, new_engine_seat, new_library_seat, new_library_seats};
 
 use crate::engine_seat::EngineSeat;
-use crate::layout::LANE;
+use crate::layout::LANE_SLOTS;
 use crate::leases::Leases;
 use crate::library_seat::LibrarySeat;
 use crate::outset::Outset;
@@ -16,7 +16,7 @@ use crate::rows::LibraryRow;
 use crate::view::Shape;
 use atomic_table::Table;
 use gate_io::NoMemory;
-use lease_core::Registry;
+use lease_core::{MOST_LIBRARIES, Registry};
 use std::alloc::Global;
 
 impl Leases {
@@ -32,8 +32,8 @@ impl Leases {
         sends: u32,
     ) -> Result<(Leases, EngineSeat, Vec<LibrarySeat>), NoMemory>
         requires sessions { sessions ≤ 64 }
-        requires libraries { libraries ≤ 16 }
-        requires depth { (1 ≤ depth) × (depth ≤ 16) }
+        requires libraries { libraries ≤ MOST_LIBRARIES }
+        requires depth { (1 ≤ depth) × (depth ≤ LANE_SLOTS) }
         requires sends { 1 ≤ sends }
         ensures shape { IfOk result (λ r. r.0.shape ≡ record { sessions = sessions; libraries = libraries; depth = depth; sends = sends; before = [] }) }
         ensures engine { IfOk result (λ r. r.1 ≡ new_engine_seat r.0) }
@@ -55,8 +55,8 @@ impl Leases {
     ) -> Result<(Leases, EngineSeat, Vec<LibrarySeat>), NoMemory>
         requires sessions { length journals.now ≤ 64 }
         requires journals { Each IsEndedJournal journals.now }
-        requires libraries { libraries ≤ 16 }
-        requires depth { (1 ≤ depth) × (depth ≤ 16) }
+        requires libraries { libraries ≤ MOST_LIBRARIES }
+        requires depth { (1 ≤ depth) × (depth ≤ LANE_SLOTS) }
         requires sends { 1 ≤ sends }
         ensures shape { IfOk result (λ r. r.0.shape ≡ record { sessions = length journals.now; libraries = libraries; depth = depth; sends = sends; before = lines_of_each journals.now }) }
         ensures engine { IfOk result (λ r. r.1 ≡ new_engine_seat r.0) }
@@ -82,8 +82,8 @@ impl Leases {
     ) -> Result<(Leases, EngineSeat, Vec<LibrarySeat>), NoMemory>
         requires sessions { (sessions ≤ 64) × (length journals.now ≤ sessions) }
         requires journals { Each IsEndedJournal journals.now }
-        requires libraries { libraries ≤ 16 }
-        requires depth { (1 ≤ depth) × (depth ≤ 16) }
+        requires libraries { libraries ≤ MOST_LIBRARIES }
+        requires depth { (1 ≤ depth) × (depth ≤ LANE_SLOTS) }
         requires sends { 1 ≤ sends }
         ensures shape { IfOk result (λ r. r.0.shape ≡ record { sessions = sessions; libraries = libraries; depth = depth; sends = sends; before = lines_of_each journals.now }) }
         ensures engine { IfOk result (λ r. r.1 ≡ new_engine_seat r.0) }
@@ -110,7 +110,7 @@ impl Leases {
     ) -> Result<Outset, NoMemory>
         requires sessions { (sessions ≤ 64) × (length journals.now ≤ sessions) }
         requires journals { Each IsEndedJournal journals.now }
-        requires libraries { libraries ≤ 16 }
+        requires libraries { libraries ≤ MOST_LIBRARIES }
         ensures outset { IfOk result (λ o. IsOutset o) }
         ensures before { IfOk result (λ o. o.before ≡ lines_of_each journals.now) }
         ensures sizes { IfOk result (λ o. (o.sessions ≡ sessions) × (o.libraries ≡ libraries)) }
@@ -131,8 +131,8 @@ impl Leases {
     ) -> Result<(Leases, EngineSeat), NoMemory>
         requires outset { IsOutset outset }
         requires sessions { outset.sessions ≤ 64 }
-        requires libraries { outset.libraries ≤ 16 }
-        requires depth { (1 ≤ depth) × (depth ≤ 16) }
+        requires libraries { outset.libraries ≤ MOST_LIBRARIES }
+        requires depth { (1 ≤ depth) × (depth ≤ LANE_SLOTS) }
         requires sends { 1 ≤ sends }
         ensures shape { IfOk result (λ r. r.0.shape ≡ record { sessions = outset.sessions; libraries = outset.libraries; depth = depth; sends = sends; before = outset.before }) }
         ensures engine { IfOk result (λ r. r.1 ≡ record (new_engine_seat r.0) { settled = new_libraries r.0.shape 1 outset.libraries }) }
@@ -151,7 +151,7 @@ impl Leases {
             sends: u64::from(sends),
             before,
         };
-        let slots = sessions as usize * libraries as usize * LANE;
+        let slots = sessions as usize * libraries as usize * LANE_SLOTS;
         let (table, seat) = Table::vacant(alloc, words.as_slice(), slots, &shape)?;
         let leases = Leases {
             table,

@@ -10,7 +10,7 @@ ghost use Rattle.lease_words.specs.Tokens.{IsOutset};
 use crate::layout::{STRETCH, beat_word, lease_word};
 use crate::rows::EngineRow;
 use gate_io::NoMemory;
-use lease_core::{Ending, Entry, Line, Registry, write_word};
+use lease_core::{Ending, Entry, Line, MOST_LIBRARIES, Registry, write_word};
 use std::alloc::Global;
 use std::collections::LinkedList;
 
@@ -28,7 +28,7 @@ impl Outset {
     /// No session had a lease.
     pub(crate) fn new(alloc: Global, sessions: u16, libraries: u8) -> Result<Outset, NoMemory>
         requires sessions { sessions ≤ 64 }
-        requires libraries { libraries ≤ 16 }
+        requires libraries { libraries ≤ MOST_LIBRARIES }
         ensures outset { IfOk result (λ o. IsOutset o) }
         ensures before { IfOk result (λ o. o.before ≡ []) }
         ensures sizes { IfOk result (λ o. (o.sessions ≡ sessions) × (o.libraries ≡ libraries)) }

@@ -13,7 +13,7 @@ use crate::plays::{Claim, Commit, HandBack};
 use crate::rows::LibraryRow;
 use crate::view::View;
 use atomic_table::Seat;
-use lease_core::read_word;
+use lease_core::{MOST_LIBRARIES, read_word};
 
 // The count is the lower half of a lease word's number.
 const COUNTS: u64 = 1 << 32;
@@ -89,7 +89,7 @@ impl Leases {
     ) -> Result<(), (u64, Item)>
         requires table { seat.old.table_id ≡ self.now.table }
         requires session { s < self.now.shape.sessions }
-        requires number { number ≤ 16 }
+        requires number { number ≤ MOST_LIBRARIES }
         requires word { word + 1 < 2 ^ 64 }
         requires offers { IsOffering self.now.shape s number slot word seat.old.me }
         ensures table { (seat.new.table_id ≡ seat.old.table_id) × (seat.new.id ≡ seat.old.id) }

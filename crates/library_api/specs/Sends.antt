@@ -1,6 +1,7 @@
 -- What a send comes to.
 use Rattle.std.specs.Prelude.{◌≡◌, ℕ, ◌+◌, ◌<◌, ◌≤◌, List, [], ◌∷◌, length, drop, None, Some}
 use Rattle.fix_fields.specs.Fit.{unfit_at}
+use Rattle.fix_fields.specs.declared.limits.TheConstants.{LONGEST_APPLICATION_BODY}
 use Rattle.lease_words.specs.declared.item.Item.{Item}
 use Rattle.lease_words.specs.declared.item.SendError.{SendError}
 use Rattle.lease_words.specs.declared.item.SendError.TheVariants as errors
@@ -76,7 +77,7 @@ IsOneItem lease body (item ∷ []) = (item.lease ≡ lease) × (item.body ≡ bo
 IsOneItem lease body (item ∷ other ∷ items) = ⊥
 
 abbrev pub most_bytes : ℕ
-most_bytes = 8192
+most_bytes = LONGEST_APPLICATION_BODY
 
 -- a lease of the session is held, and the body may be sent
 pub record IsSendable (k : Known) (s : ℕ) (body : List ℕ) : Type 0 where

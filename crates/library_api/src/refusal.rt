@@ -17,7 +17,7 @@ pub enum AskError {
 pub enum SendRefusal {
     /// The library holds no lease of the session.
     NotHeld,
-    /// The body has more than 8,192 bytes.
+    /// The body has more than `LONGEST_APPLICATION_BODY` bytes.
     TooLong { length: usize },
     /// The body isn't one that an application may send, by the field or fault at this place.
     BadBody { at: usize },

@@ -11,12 +11,12 @@ use crate::library::Library;
 use crate::reading::Reading;
 use crate::refusal::SendRefusal;
 use crate::waited::WaitKind;
-use fix_fields::check_body;
+use fix_fields::{LONGEST_APPLICATION_BODY, check_body};
 use gate_io::Bytes;
 use lease_words::{Item, SendError, Sent};
 
 // The most bytes of a body that a library sends.
-const MOST_BYTES: usize = 8192;
+const MOST_BYTES: usize = LONGEST_APPLICATION_BODY;
 
 impl Library {
     /// Sends a message on a session. Where it isn't sent its body comes back, with the first cause

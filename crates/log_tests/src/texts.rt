@@ -3,7 +3,7 @@ use crate::cases::{MORNING, entry, soh};
 use fix_frame::{is_body, write_frame};
 use gate_io::{Bytes, LAST_MOMENT, NoMemory};
 use message_log::{LAST_SERIES, OutEntry, OutLog};
-use resend_plan::{LONGEST_BODY, Names2, WireItem, wire_body};
+use resend_plan::{LONGEST_APPLICATION_BODY, Names2, WireItem, wire_body};
 use std::alloc::Global;
 use std::test::Fail;
 
@@ -137,7 +137,7 @@ fn long_body(alloc: Global, length: usize) -> Result<Vec<u8>, NoMemory> {
 /// A log with one entry, whose body is as long as can be.
 fn long_log(alloc: Global) -> Result<OutLog, NoMemory> {
     let mut log = OutLog::new(alloc);
-    let body = Bytes::of(long_body(alloc, LONGEST_BODY)?);
+    let body = Bytes::of(long_body(alloc, LONGEST_APPLICATION_BODY)?);
     let entry = OutEntry {
         at: MORNING,
         admin: false,

@@ -7,12 +7,11 @@ use Rattle.std.proofs.lemmas.List.FromFn.{length-range_with_len}
 use Rattle.std.proofs.lemmas.List.Elements.{All-nil, All-cons, All-weaker}
 use Rattle.message_log.specs.declared.entry.OutEntry.{OutEntry}
 use Rattle.message_log.specs.Series.{series_at, entry_at, entry_in}
-use Rattle.message_log.proofs.Places.{slice_get-take, slice_get-drop}
-use Rattle.message_log.proofs.Entries.{entry_in_is}
 use Rattle.resend_plan.specs.declared.item.WireItem.{WireItem}
 use Rattle.resend_plan.specs.declared.item.WireItem.TheVariants.{New, Again, GapFill}
 use Rattle.resend_plan.specs.Plan.{leading_sessions, items_from, last_asked, is_empty_range, plan_of, numbers_of, asked_numbers, AsksNothing, IsAnswer}
 use Rattle.resend_plan.specs.Wire.{NamesEntry}
+use Rattle.resend_plan.proofs.Places.{slice_get-take, slice_get-drop, entry_in_is}
 use Rattle.resend_plan.proofs.Walk.{asked_within}
 
 -- The numbers of the items of some entries. Where a session entry of the range stands before them, those of its run have no item of their own.

@@ -1,3 +1,4 @@
+pub mod Places
 pub mod Results
 pub mod Ranges
 pub mod Walk

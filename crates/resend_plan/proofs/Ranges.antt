@@ -7,10 +7,9 @@ use Rattle.std.proofs.lemmas.Option.{slice_get-get_or}
 use Rattle.std.proofs.lemmas.List.{drop_more, drop-take, drop-drop}
 use Rattle.message_log.specs.declared.entry.OutEntry.{OutEntry}
 use Rattle.message_log.specs.Stretches.{is_session, IsStretchEnd}
-use Rattle.message_log.proofs.Places.{slice_get-take, slice_get-drop}
-use Rattle.message_log.proofs.Sessions.{at_number, session-behind, session-past}
 use Rattle.resend_plan.specs.Plan.{leading_sessions}
 use Rattle.resend_plan.specs.Wire.{no_entry}
+use Rattle.resend_plan.proofs.Places.{slice_get-take, slice_get-drop, at_number, session-behind, session-past}
 
 -- the entry with a number, and whether it is a session entry
 pub admin_is : (entries : List OutEntry) (n : ℕ) → 0 < n → n ≤ length entries → (get_or entries (n - 1) no_entry).admin ≡ is_session entries n

@@ -4,11 +4,11 @@ use Rattle.std.specs.List.{slice_range}
 use Rattle.std.proofs.lemmas.Bool.{cases_lt, eq-eqb, ne_eqb, lt-ltb, le-ltb, ltb-false, cond-true, cond-false, cond_both, or_left, or_right, or_from, or_parts}
 use Rattle.message_log.specs.declared.entry.OutEntry.{OutEntry}
 use Rattle.message_log.specs.Stretches.{is_session, IsStretchEnd}
-use Rattle.message_log.proofs.StretchEnds.{session_at}
 use Rattle.resend_plan.specs.declared.item.WireItem.{WireItem}
 use Rattle.resend_plan.specs.declared.item.WireItem.TheVariants.{Again, GapFill}
 use Rattle.resend_plan.specs.Plan.{leading_sessions, items_from, last_asked, is_empty_range, plan_of}
 use Rattle.resend_plan.specs.Wire.{no_entry}
+use Rattle.resend_plan.proofs.Places.{session_at}
 use Rattle.resend_plan.proofs.Ranges.{admin_is, range_head, range_tail, leading_behind}
 
 pub asked_within : (count last : ℕ) → last_asked count last ≤ count

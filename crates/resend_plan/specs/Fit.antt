@@ -3,7 +3,8 @@ use Rattle.std.specs.Prelude.{ℕ, ◌+◌, ◌^◌, ◌<◌, ◌≤◌, List, l
 use Rattle.fix_frame.specs.Frame.{IsBody}
 use Rattle.message_log.specs.declared.entry.OutEntry.{OutEntry}
 use Rattle.message_log.specs.Series.{entry_at}
-use Rattle.resend_plan.specs.declared.item.TheConstants.{LONGEST_NAME, LONGEST_BODY, LONGEST_HEADER, LONGEST_GAP_FILL}
+use Rattle.fix_fields.specs.declared.limits.TheConstants.{LONGEST_APPLICATION_BODY, LONGEST_NAME}
+use Rattle.resend_plan.specs.declared.item.TheConstants.{LONGEST_HEADER, LONGEST_GAP_FILL}
 use Rattle.resend_plan.specs.declared.item.Names2.{Names2}
 use Rattle.resend_plan.specs.declared.item.WireItem.{WireItem}
 use Rattle.resend_plan.specs.declared.item.WireItem.TheVariants.{New, Again, GapFill}
@@ -39,7 +40,7 @@ pub record AreShort (names : Names2) : Type 0 where
 -- the body of a frame, within the limit of logged bodies
 pub record IsFit (body : List ℕ) : Type 0 where
   pub is_body : IsBody body
-  pub short : length body ≤ LONGEST_BODY
+  pub short : length body ≤ LONGEST_APPLICATION_BODY
 
 -- each entry of the log has such a body
 abbrev pub HasFitBodies : List (List OutEntry) → Type 0

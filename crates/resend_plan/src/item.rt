@@ -1,11 +1,5 @@
 use gate_io::Bytes;
 
-/// The most bytes of a CompID.
-pub const LONGEST_NAME: usize = 32;
-
-/// The most bytes of a body that is logged.
-pub const LONGEST_BODY: usize = 8_192;
-
 /// The most bytes of a header beside the type field and the values of the CompIDs: their tags, the
 /// number, and the three fields of what is sent again.
 pub const LONGEST_HEADER: usize = 88;

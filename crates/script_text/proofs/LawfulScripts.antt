@@ -5,6 +5,7 @@ use Rattle.std.proofs.lemmas.List.Elements.{All-nil, All-push}
 use Rattle.std.proofs.lemmas.List.Quantifiers.{all_pairs_push}
 use Rattle.std.specs.List.{AllPairs}
 use Rattle.std.specs.Prelude.{nat_lt, if◌then◌else◌}
+use Rattle.fix_fields.specs.Laws.{MomentsHaveABound}
 use Rattle.script_text.specs.Grammar.{line_of}
 use Rattle.script_text.specs.Lawful.{AreNames, IsLawful, IsLawfulConfig, StepFits, StepsFit, line_numbers}
 use Rattle.script_text.specs.Meaning.{lines_of, read_on, script_from, script_of}
@@ -333,19 +334,19 @@ kept_line serving n said (line.Step what) kept fits = kept_step serving n said w
 
 -- ---- whole scripts
 
-lawful-from : (serving : Bool) (n : ℕ) (said : SoFar) (texts : List (List ℕ)) (script : Script) → Kept serving n said → script_from serving n said texts ≡ Ok script → IsLawful serving script
-lawful-from serving n said [] script kept e =
+lawful-from : MomentsHaveABound → (serving : Bool) (n : ℕ) (said : SoFar) (texts : List (List ℕ)) (script : Script) → Kept serving n said → script_from serving n said texts ≡ Ok script → IsLawful serving script
+lawful-from bound serving n said [] script kept e =
     let same : said.script ≡ script = cc (from-nil serving n said) in subst (IsLawful serving) same kept.lawful
-lawful-from serving n said (text ∷ texts) script kept e =
+lawful-from bound serving n said (text ∷ texts) script kept e =
     elim (line_of serving said text) as (λ v. line_of serving said text ≡ v → read_on n (λ line. script_from serving (suc n) (said_with n line said) texts) v ≡ Ok script → IsLawful serving script) [
-      | Ok what ↦ λ read s. lawful-from serving (suc n) (said_with n what said) texts script (kept_line serving n said what kept (line_of-fits serving said text what read)) s
+      | Ok what ↦ λ read s. lawful-from bound serving (suc n) (said_with n what said) texts script (kept_line serving n said what kept (line_of-fits bound serving said text what read)) s
       | Err kind ↦ λ _ s. cc
     ] refl (sym (from-cons serving n said text texts) ∙ e)
 
-pub lawful-script : (serving : Bool) (text : List ℕ) (script : Script) → script_of serving text ≡ Ok script → IsLawful serving script
+pub lawful-script : MomentsHaveABound → (serving : Bool) (text : List ℕ) (script : Script) → script_of serving text ≡ Ok script → IsLawful serving script
 unfolding script_of
-lawful-script serving text script e =
+lawful-script bound serving text script e =
     elim (nat_lt 16_777_216 (length text)) as (λ v. (if v then Err (Fault 0 TooLong) else script_from serving 1 no_lines (lines_of text)) ≡ Ok script → IsLawful serving script) [
       | true ↦ λ s. cc
-      | false ↦ λ s. lawful-from serving 1 no_lines (lines_of text) script (kept_start serving) s
+      | false ↦ λ s. lawful-from bound serving 1 no_lines (lines_of text) script (kept_start serving) s
     ] e

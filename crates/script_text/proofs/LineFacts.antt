@@ -2,6 +2,8 @@
 use Rattle.std.proofs.Common.{◌≡◌, ◌≢◌, ℕ, ◌<◌, ◌≤◌, Bool, true, false, not, cond, List, length, Option, Some, None, Ok, All, IsTrue, nat_lt, ap, ◌∙◌, arith, subst}
 use Rattle.std.proofs.lemmas.Bool.Decides.{nat_tests}
 use Rattle.std.specs.List.{list_all, list_any}
+use Rattle.fix_fields.specs.Laws.{MomentsHaveABound}
+use Rattle.gate_io.specs.declared.clocks.TheConstants.{LAST_MOMENT}
 use Rattle.script_text.specs.Args.{body_at, ends, keyword_at, later, moment_at, name_at, number_at, number_below, number_within, text_at}
 use Rattle.script_text.specs.Grammar.{act_line, act_named, act_worded, bytes_line, config_line, connect_line, connection_and_number_line, connection_line, event_line, frame_line, hand_line, is_here, is_skipped, lib_line, limit_line, limit_named, limit_worded, line_of, moment_line, names_line, new_names, no_steps, opened_line, option_line, read_line, release_line, request_line, same_names, send_line, session_line}
 use Rattle.script_text.specs.Kinds.{◌>>=◌, both, demand}
@@ -124,13 +126,13 @@ unfolding connection_and_number_line
 connection_and_number_line-fits connects args pair e =
     number_below-ok connects args pair.0 (both-ok _ (number_at (later args)) pair (ends-ok (later (later args)) _ pair e)).0
 
-moment_line-fits : (present : ℕ) (args : Args) (now : ℕ) → moment_line present args ≡ Ok now → (present ≤ now) × (now ≤ 253_402_300_799_999)
+moment_line-fits : MomentsHaveABound → (present : ℕ) (args : Args) (now : ℕ) → moment_line present args ≡ Ok now → (present ≤ now) × (now ≤ LAST_MOMENT)
 unfolding moment_line
-moment_line-fits present args now e =
+moment_line-fits bound present args now e =
     let found = bind-ok (moment_at args) _ now (ends-ok (later args) _ now e) in
     let held = if-ok (nat_lt found.0 present) Backward found.0 now found.2 in
     let late : present ≤ found.0 = grind (arith, nat_tests, held.0) in
-    let early = moment_at-ok args found.0 found.1 in
+    let early = moment_at-ok bound args found.0 found.1 in
     (omega (arith, held.1), omega (arith, held.1))
 
 connect_line-fits : (connects : ℕ) (args : Args) (what : Step) → connect_line connects args ≡ Ok what → (connects < 1_024) × (step.Connect ≡ what)
@@ -154,36 +156,36 @@ frame_line-fits serving libraries connects present args what here e =
     let framed = body_at-ok (later args) made.0.1 parts.1 in
     subst (StepFits serving libraries connects present) made.2 (here, number_below-ok connects args made.0.0 parts.0, framed.0, framed.1)
 
-event_line-fits : (serving : Bool) (libraries connects present : ℕ) (word : EventWord) (args : Args) (what : Step) → IsTrue (not serving) → event_line connects present word args ≡ Ok what → StepFits serving libraries connects present what
+event_line-fits : MomentsHaveABound → (serving : Bool) (libraries connects present : ℕ) (word : EventWord) (args : Args) (what : Step) → IsTrue (not serving) → event_line connects present word args ≡ Ok what → StepFits serving libraries connects present what
 unfolding event_line
-event_line-fits serving libraries connects present event_word.At args what here e =
+event_line-fits bound serving libraries connects present event_word.At args what here e =
     let made = as_part-ok step.At (moment_line present args) what e in
-    let bounds = moment_line-fits present args made.0 made.1 in
+    let bounds = moment_line-fits bound present args made.0 made.1 in
     subst (StepFits serving libraries connects present) made.2 (here, bounds.0, bounds.1)
-event_line-fits serving libraries connects present event_word.Connect args what here e =
+event_line-fits bound serving libraries connects present event_word.Connect args what here e =
     let made = connect_line-fits connects args what e in
     subst (StepFits serving libraries connects present) made.1 (here, made.0)
-event_line-fits serving libraries connects present event_word.Bytes args what here e =
+event_line-fits bound serving libraries connects present event_word.Bytes args what here e =
     let made = bytes_line-fits connects args what e in
     subst (StepFits serving libraries connects present) made.3 (here, made.2)
-event_line-fits serving libraries connects present event_word.Frame args what here e =
+event_line-fits bound serving libraries connects present event_word.Frame args what here e =
     frame_line-fits serving libraries connects present args what here e
-event_line-fits serving libraries connects present event_word.Finish args what here e =
+event_line-fits bound serving libraries connects present event_word.Finish args what here e =
     let made = as_part-ok step.Finish (connection_line connects args) what e in
     subst (StepFits serving libraries connects present) made.2 (here, connection_line-fits connects args made.0 made.1)
-event_line-fits serving libraries connects present event_word.FailRead args what here e =
+event_line-fits bound serving libraries connects present event_word.FailRead args what here e =
     let made = as_part-ok step.FailRead (connection_line connects args) what e in
     subst (StepFits serving libraries connects present) made.2 (here, connection_line-fits connects args made.0 made.1)
-event_line-fits serving libraries connects present event_word.FailWrite args what here e =
+event_line-fits bound serving libraries connects present event_word.FailWrite args what here e =
     let made = as_part-ok _ (connection_and_number_line connects args) what e in
     subst (StepFits serving libraries connects present) made.2 (here, connection_and_number_line-fits connects args made.0 made.1)
-event_line-fits serving libraries connects present event_word.Block args what here e =
+event_line-fits bound serving libraries connects present event_word.Block args what here e =
     let made = as_part-ok _ (connection_and_number_line connects args) what e in
     subst (StepFits serving libraries connects present) made.2 (here, connection_and_number_line-fits connects args made.0 made.1)
-event_line-fits serving libraries connects present event_word.Unblock args what here e =
+event_line-fits bound serving libraries connects present event_word.Unblock args what here e =
     let made = as_part-ok step.Unblock (connection_line connects args) what e in
     subst (StepFits serving libraries connects present) made.2 (here, connection_line-fits connects args made.0 made.1)
-event_line-fits serving libraries connects present event_word.Turn args what here e =
+event_line-fits bound serving libraries connects present event_word.Turn args what here e =
     let made : step.Turn ≡ what = cc (ends-ok args (Ok step.Turn) what e) in
     subst (StepFits serving libraries connects present) made here
 
@@ -236,26 +238,26 @@ LineFits serving said (line.Config what) =
 LineFits serving said (line.Step what) =
     StepFits serving said.script.config.libraries said.connects said.moment what
 
-opened_line-fits : (serving : Bool) (said : SoFar) (found : Option Opening) (args : Args) (what : Line) → opened_line serving said found args ≡ Ok what → LineFits serving said what
+opened_line-fits : MomentsHaveABound → (serving : Bool) (said : SoFar) (found : Option Opening) (args : Args) (what : Line) → opened_line serving said found args ≡ Ok what → LineFits serving said what
 unfolding opened_line
-opened_line-fits serving said None args what e = cc
-opened_line-fits serving said (Some (opening.Configures word)) args what e =
+opened_line-fits bound serving said None args what e = cc
+opened_line-fits bound serving said (Some (opening.Configures word)) args what e =
     let made = as_part-ok line.Config (demand (no_steps said) Misplaced (config_line serving said.script.config.names word args)) what e in
     let held = demand-ok (no_steps said) Misplaced _ made.0 made.1 in
     let none : length said.script.steps ≡ 0 = grind (arith, nat_tests, held.0) in
     subst (LineFits serving said) made.2 (none, config_line-fits serving said.script.config.names word args made.0 held.1)
-opened_line-fits serving said (Some (opening.Replays word)) args what e =
+opened_line-fits bound serving said (Some (opening.Replays word)) args what e =
     let made = as_part-ok line.Step (demand (not serving) Misplaced (event_line said.connects said.moment word args)) what e in
     let held = demand-ok (not serving) Misplaced _ made.0 made.1 in
-    subst (LineFits serving said) made.2 (event_line-fits serving said.script.config.libraries said.connects said.moment word args made.0 held.0 held.1)
-opened_line-fits serving said (Some opening.Library) args what e =
+    subst (LineFits serving said) made.2 (event_line-fits bound serving said.script.config.libraries said.connects said.moment word args made.0 held.0 held.1)
+opened_line-fits bound serving said (Some opening.Library) args what e =
     let made = as_part-ok line.Step (lib_line serving said.script.config.libraries args) what e in
     subst (LineFits serving said) made.2 (lib_line-fits serving said.script.config.libraries said.connects said.moment args made.0 made.1)
 
-pub line_of-fits : (serving : Bool) (said : SoFar) (text : List ℕ) (what : Line) → line_of serving said text ≡ Ok what → LineFits serving said what
+pub line_of-fits : MomentsHaveABound → (serving : Bool) (said : SoFar) (text : List ℕ) (what : Line) → line_of serving said text ≡ Ok what → LineFits serving said what
 unfolding line_of
-line_of-fits serving said text what e =
+line_of-fits bound serving said text what e =
     elim (is_skipped text) as (λ v. cond v (Ok line.Blank) (demand (list_all is_printable text) BadByte (opened_line serving said (opening_of (word_in text)) (behind_word text))) ≡ Ok what → LineFits serving said what) [
       | true ↦ λ s. let made : line.Blank ≡ what = cc in subst (LineFits serving said) made tt
-      | false ↦ λ s. opened_line-fits serving said (opening_of (word_in text)) (behind_word text) what (demand-ok (list_all is_printable text) BadByte _ what s).1
+      | false ↦ λ s. opened_line-fits bound serving said (opening_of (word_in text)) (behind_word text) what (demand-ok (list_all is_printable text) BadByte _ what s).1
     ] e

@@ -6,10 +6,10 @@ use Rattle.std.specs.List.{list_any}
 use Rattle.std.specs.Option.{is_none, ok_or}
 use Rattle.std.specs.Str.{bytes_eq}
 use Rattle.std.proofs.lemmas.Slice.Eq.{bytes_eq-Decides}
+use Rattle.fix_fields.specs.Laws.{MomentsHaveABound}
 use Rattle.fix_fields.specs.Stamp.{moment_of}
-use Rattle.fix_fields.proofs.Days.{day_number_bound}
-use Rattle.fix_fields.proofs.Stamps.{IsStamp-from}
 use Rattle.fix_frame.specs.Frame.{IsBody, frame_of}
+use Rattle.gate_io.specs.declared.clocks.TheConstants.{LAST_MOMENT}
 use Rattle.script_text.specs.Args.{body_at, ends, is_body_text, is_framed, later, moment_at, name_at, number_at, number_below, number_line, number_within, text_at, word_at}
 use Rattle.script_text.specs.Grammar.{same_names}
 use Rattle.script_text.specs.Kinds.{◌>>=◌, as_part, both, demand}
@@ -85,17 +85,12 @@ name_at-ok args word e =
     let held = unless-ok (is_name found.0) BadText found.0 word found.2 in
     subst (λ (w : List ℕ). is_name w ≡ true) held.1 held.0
 
--- no timestamp is behind the year 9999
-pub moment_of-bound : (text : List ℕ) (ms : ℕ) → moment_of text ≡ Some ms → ms ≤ 253_402_300_799_999
-moment_of-bound text ms e =
-    let stamp = IsStamp-from text ms e in
-    omega (arith, stamp.moment, stamp.of_day, stamp.of_second, day_number_bound stamp.date stamp.real)
-
-pub moment_at-ok : (args : Args) (ms : ℕ) → moment_at args ≡ Ok ms → ms ≤ 253_402_300_799_999
+-- no timestamp is behind the last moment
+pub moment_at-ok : MomentsHaveABound → (args : Args) (ms : ℕ) → moment_at args ≡ Ok ms → ms ≤ LAST_MOMENT
 unfolding moment_at
-moment_at-ok args ms e =
+moment_at-ok bound args ms e =
     let found = bind-ok (word_at args) _ ms e in
-    moment_of-bound found.0 ms (ok_or-ok (moment_of found.0) BadNumber ms found.2)
+    bound found.0 ms (ok_or-ok (moment_of found.0) BadNumber ms found.2)
 
 pub is_framed-parts : (bytes : List ℕ) → is_framed bytes ≡ true → IsBody bytes × (length (frame_of bytes) ≤ 65_536)
 unfolding is_framed

@@ -4,8 +4,8 @@ use Rattle.std.proofs.lemmas.Bool.{and_from}
 use Rattle.std.proofs.lemmas.Bool.Decides.{nat_tests}
 use Rattle.std.specs.List.{list_all}
 use Rattle.std.specs.Option.{option_map, option_and_then}
-use Rattle.script_text.specs.Printed.{Front, escaped, escaped_byte, front_of, hex_digit_of, hex_value, is_printable, meant, printed, printed_byte}
-use Rattle.script_text.proofs.Texts.{meant-nil, meant-front, with_front}
+use Rattle.script_text.specs.Printed.{Front, front_of_digits, escaped_byte, front_of, hex_digit_of, hex_value, is_printable, bytes_of_text, printed_text, printed_byte}
+use Rattle.script_text.proofs.Texts.{bytes_of_text-nil, bytes_of_text-front, with_front}
 
 hex_digit-small : (n : ℕ) → n < 10 → hex_digit_of n ≡ 48 + n
 hex_digit-small n small = grind (arith, nat_tests)
@@ -35,7 +35,7 @@ hex_value-hex_digit n small =
 abbrev front : ℕ → List ℕ → Front
 front b rest = record { byte = b; left = rest }
 
-escaped-digits : (b : ℕ) (rest : List ℕ) → b < 256 → escaped (hex_digit_of (b / 16) ∷ hex_digit_of (b % 16) ∷ rest) ≡ Some (front b rest)
+escaped-digits : (b : ℕ) (rest : List ℕ) → b < 256 → front_of_digits (hex_digit_of (b / 16) ∷ hex_digit_of (b % 16) ∷ rest) ≡ Some (front b rest)
 escaped-digits b rest byte =
     let high = hex_value-hex_digit (b / 16) (omega arith) in
     let low = hex_value-hex_digit (b % 16) (omega arith) in
@@ -44,9 +44,9 @@ escaped-digits b rest byte =
     ∙ ap (option_map (λ l. front (b / 16 * 16 + l) rest)) low
     ∙ ap (λ n. Some (front n rest)) whole
 
-front-escaped : (b : ℕ) (rest : List ℕ) → b < 256 → front_of (escaped_byte b ++ rest) ≡ Some (front b rest)
+front-escaped_byte : (b : ℕ) (rest : List ℕ) → b < 256 → front_of (escaped_byte b ++ rest) ≡ Some (front b rest)
 unfolding front_of
-front-escaped b rest byte = escaped-digits b rest byte
+front-escaped_byte b rest byte = escaped-digits b rest byte
 
 front-itself : (b : ℕ) (rest : List ℕ) → (b == 124) || (b == 92) ≡ false → front_of (b ∷ rest) ≡ Some (front b rest)
 unfolding front_of
@@ -57,24 +57,24 @@ unfolding front_of
 front-bar rest = refl
 
 -- the front of what is printed for a byte is that byte
-front-printed : (b : ℕ) (rest : List ℕ) → b < 256 → front_of (printed_byte b ++ rest) ≡ Some (front b rest)
-front-printed b rest byte =
+front-printed_text : (b : ℕ) (rest : List ℕ) → b < 256 → front_of (printed_byte b ++ rest) ≡ Some (front b rest)
+front-printed_text b rest byte =
     elim (b == 1) as (λ v. b == 1 ≡ v → front_of (cond v (124 ∷ []) (cond ((b == 124) || (b == 92)) (escaped_byte b) (cond (is_printable b) (b ∷ []) (escaped_byte b))) ++ rest) ≡ Some (front b rest)) [
       | true ↦ λ e. front-bar rest ∙ ap (λ n. Some (front n rest)) (sym (eqb-true b 1 e))
       | false ↦ λ _. elim ((b == 124) || (b == 92)) as (λ v. (b == 124) || (b == 92) ≡ v → front_of (cond v (escaped_byte b) (cond (is_printable b) (b ∷ []) (escaped_byte b)) ++ rest) ≡ Some (front b rest)) [
-        | true ↦ λ _. front-escaped b rest byte
+        | true ↦ λ _. front-escaped_byte b rest byte
         | false ↦ λ plain. elim (is_printable b) as (λ v. front_of (cond v (b ∷ []) (escaped_byte b) ++ rest) ≡ Some (front b rest)) [
           | true ↦ front-itself b rest plain
-          | false ↦ front-escaped b rest byte
+          | false ↦ front-escaped_byte b rest byte
         ]
       ] refl
     ] refl
 
-pub meant-printed : (bytes : List ℕ) → All (λ b. b < 256) bytes → meant (printed bytes) ≡ Some bytes
-meant-printed [] all = meant-nil
-meant-printed (b ∷ bytes) all =
-    meant-front (printed (b ∷ bytes)) (front b (printed bytes)) (front-printed b (printed bytes) (all 0 0 (omega arith)))
-    ∙ ap (with_front (b ∷ [])) (meant-printed bytes (λ k d h. all (suc k) d (omega arith)))
+pub bytes_of_text-printed_text : (bytes : List ℕ) → All (λ b. b < 256) bytes → bytes_of_text (printed_text bytes) ≡ Some bytes
+bytes_of_text-printed_text [] all = bytes_of_text-nil
+bytes_of_text-printed_text (b ∷ bytes) all =
+    bytes_of_text-front (printed_text (b ∷ bytes)) (front b (printed_text bytes)) (front-printed_text b (printed_text bytes) (all 0 0 (omega arith)))
+    ∙ ap (with_front (b ∷ [])) (bytes_of_text-printed_text bytes (λ k d h. all (suc k) d (omega arith)))
 
 hex_digit-printable : (n : ℕ) → n < 16 → is_printable (hex_digit_of n) ≡ true
 hex_digit-printable n small = grind (arith, nat_tests)
@@ -87,8 +87,8 @@ list_all-append p (x ∷ xs) ys h k =
       | false ↦ λ e. e
     ] h
 
-printable-escaped : (b : ℕ) → b < 256 → list_all is_printable (escaped_byte b) ≡ true
-printable-escaped b byte =
+printable-escaped_byte : (b : ℕ) → b < 256 → list_all is_printable (escaped_byte b) ≡ true
+printable-escaped_byte b byte =
     and_from _ _ (hex_digit-printable (b / 16) (omega arith)) (and_from _ _ (hex_digit-printable (b % 16) (omega arith)) refl)
 
 printable-byte : (b : ℕ) → b < 256 → list_all is_printable (printed_byte b) ≡ true
@@ -96,15 +96,15 @@ printable-byte b byte =
     elim (b == 1) as (λ v. list_all is_printable (cond v (124 ∷ []) (cond ((b == 124) || (b == 92)) (escaped_byte b) (cond (is_printable b) (b ∷ []) (escaped_byte b)))) ≡ true) [
       | true ↦ refl
       | false ↦ elim ((b == 124) || (b == 92)) as (λ v. list_all is_printable (cond v (escaped_byte b) (cond (is_printable b) (b ∷ []) (escaped_byte b))) ≡ true) [
-        | true ↦ printable-escaped b byte
+        | true ↦ printable-escaped_byte b byte
         | false ↦ elim (is_printable b) as (λ v. is_printable b ≡ v → list_all is_printable (cond v (b ∷ []) (escaped_byte b)) ≡ true) [
           | true ↦ λ e. and_from _ _ e refl
-          | false ↦ λ _. printable-escaped b byte
+          | false ↦ λ _. printable-escaped_byte b byte
         ] refl
       ]
     ]
 
-pub printable-printed : (bytes : List ℕ) → All (λ b. b < 256) bytes → list_all is_printable (printed bytes) ≡ true
-printable-printed [] all = refl
-printable-printed (b ∷ bytes) all =
-    list_all-append is_printable (printed_byte b) (printed bytes) (printable-byte b (all 0 0 (omega arith))) (printable-printed bytes (λ k d h. all (suc k) d (omega arith)))
+pub printable-printed_text : (bytes : List ℕ) → All (λ b. b < 256) bytes → list_all is_printable (printed_text bytes) ≡ true
+printable-printed_text [] all = refl
+printable-printed_text (b ∷ bytes) all =
+    list_all-append is_printable (printed_byte b) (printed_text bytes) (printable-byte b (all 0 0 (omega arith))) (printable-printed_text bytes (λ k d h. all (suc k) d (omega arith)))

@@ -7,7 +7,7 @@ use Rattle.fix_fields.specs.Stamp.{moment_of}
 use Rattle.fix_frame.specs.Frame.{frame_of}
 use Rattle.fix_frame.specs.declared.layout.TheConstants.{LONGEST_FRAME}
 use Rattle.script_text.specs.Kinds.{◌>>=◌, demand}
-use Rattle.script_text.specs.Printed.{meant}
+use Rattle.script_text.specs.Printed.{bytes_of_text}
 use Rattle.script_text.specs.Words.{word_in, behind_word, natural_of, is_name}
 use Rattle.script_text.specs.declared.kinds.ScriptKind.{ScriptKind}
 use Rattle.script_text.specs.declared.kinds.ScriptKind.TheVariants.{BadShape, BadNumber, BadText, OutOfRange}
@@ -70,7 +70,7 @@ name_at args = word_at args >>= λ word. if is_name word then Ok word else Err B
 -- all that follows, as the bytes that it stands for
 unfoldable pub text_at : Option (List ℕ) → Result (List ℕ) ScriptKind
 text_at None = Err BadShape
-text_at (Some text) = ok_or (meant text) BadText
+text_at (Some text) = ok_or (bytes_of_text text) BadText
 
 -- the last byte is 1
 abbrev pub ends_field : List ℕ → Bool

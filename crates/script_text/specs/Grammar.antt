@@ -4,7 +4,7 @@
 use Rattle.std.specs.Prelude.{ℕ, Bool, true, not, ◌&&◌, ◌==◌, nat_lt, if◌then◌else◌, List, [], ◌∷◌, length, Option, Some, None, Result, Ok, Err}
 use Rattle.std.specs.List.{list_all, list_any}
 use Rattle.std.specs.Str.{bytes_eq}
-use Rattle.script_text.specs.Kinds.{◌>>=◌, as_part, demand, both, joined}
+use Rattle.script_text.specs.Kinds.{◌>>=◌, as_part, demand, both, as_parts}
 use Rattle.script_text.specs.Printed.{is_printable}
 use Rattle.script_text.specs.Words.{word_in, behind_word, limit_word_of, lib_word_of, opening_of}
 use Rattle.script_text.specs.Args.{ends, keyword_at, later, number_at, number_within, number_line, number_below, moment_at, name_at, text_at, body_at}
@@ -104,11 +104,11 @@ connect_line connects args = ends args (demand (nat_lt connects MOST_CONNECTIONS
 
 -- `C TEXT`
 unfoldable pub bytes_line : ℕ → Option (List ℕ) → Result Step ScriptKind
-bytes_line connects args = joined step.Bytes (number_below connects args) (text_at (later args))
+bytes_line connects args = as_parts step.Bytes (number_below connects args) (text_at (later args))
 
 -- `C TEXT`, the text of a body
 unfoldable pub frame_line : ℕ → Option (List ℕ) → Result Step ScriptKind
-frame_line connects args = joined step.Frame (number_below connects args) (body_at (later args))
+frame_line connects args = as_parts step.Frame (number_below connects args) (body_at (later args))
 
 unfoldable pub event_line : ℕ → ℕ → EventWord → Option (List ℕ) → Result Step ScriptKind
 event_line connects present event_word.At args = as_part step.At (moment_line present args)
@@ -138,7 +138,7 @@ request_line args =
 
 -- `S TEXT`
 unfoldable pub send_line : Option (List ℕ) → Result LibStep ScriptKind
-send_line args = joined act.Send (session_at args) (text_at (later args))
+send_line args = as_parts act.Send (session_at args) (text_at (later args))
 
 -- `S`
 unfoldable pub release_line : Option (List ℕ) → Result LibStep ScriptKind
@@ -175,7 +175,7 @@ abbrev pub act_named : Bool → ℕ → Option (List ℕ) → Option LibWord →
 act_named serving libraries args None = Err UnknownWord
 act_named serving libraries args (Some word) =
     demand (is_here serving word) Misplaced
-    (joined step.Lib (number_within 1 libraries args) (act_line word (later (later args))))
+    (as_parts step.Lib (number_within 1 libraries args) (act_line word (later (later args))))
 
 abbrev pub act_worded : Bool → ℕ → Option (List ℕ) → Option (List ℕ) → Result Step ScriptKind
 act_worded serving libraries args None = Err BadShape

@@ -62,5 +62,5 @@ both (Err kind) (Ok y) = Err kind
 both (Err kind) (Err other) = Err (first_fault kind other)
 
 -- two parts, put as parts of something else
-abbrev pub joined : {A B C : Type 0} → (A → B → C) → Result A ScriptKind → Result B ScriptKind → Result C ScriptKind
-joined make first second = as_part (λ parts. make parts.0 parts.1) (both first second)
+abbrev pub as_parts : {A B C : Type 0} → (A → B → C) → Result A ScriptKind → Result B ScriptKind → Result C ScriptKind
+as_parts make first second = as_part (λ parts. make parts.0 parts.1) (both first second)

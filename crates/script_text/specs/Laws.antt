@@ -3,7 +3,7 @@ use Rattle.std.specs.Prelude.{◌≡◌, ◌↔◌, ◌⊎◌, ℕ, suc, ◌+◌
 use Rattle.std.specs.List.{flat_map, list_all}
 use Rattle.script_text.specs.Grammar.{line_of}
 use Rattle.script_text.specs.Meaning.{lines_of, script_of}
-use Rattle.script_text.specs.Printed.{is_printable, printed, meant}
+use Rattle.script_text.specs.Printed.{is_printable, printed_text, bytes_of_text}
 use Rattle.script_text.specs.SoFar.{SoFar, no_lines, said_with}
 use Rattle.script_text.specs.declared.kinds.ScriptError.TheVariants.{Fault}
 use Rattle.script_text.specs.declared.reading.TheConstants.{LONGEST_SCRIPT}
@@ -14,24 +14,24 @@ use Rattle.script_text.specs.declared.steps.Script.{Script}
 
 -- what is printed for bytes is read as them
 abbrev pub PrintedTextsReadAgain : Type 0
-PrintedTextsReadAgain = (bytes : List ℕ) → All (λ b. b < 256) bytes → meant (printed bytes) ≡ Some bytes
+PrintedTextsReadAgain = (bytes : List ℕ) → All (λ b. b < 256) bytes → bytes_of_text (printed_text bytes) ≡ Some bytes
 
 -- what is printed for bytes has printable bytes alone
 abbrev pub PrintedTextsArePrintable : Type 0
-PrintedTextsArePrintable = (bytes : List ℕ) → All (λ b. b < 256) bytes → list_all is_printable (printed bytes) ≡ true
+PrintedTextsArePrintable = (bytes : List ℕ) → All (λ b. b < 256) bytes → list_all is_printable (printed_text bytes) ≡ true
 
 -- no byte is LF
 abbrev pub is_unbroken : List ℕ → Bool
 is_unbroken line = list_all (λ b. not (b == 10)) line
 
 -- lines, each with LF behind it
-abbrev pub ended : List (List ℕ) → List ℕ
-ended lines = flat_map (λ line. line ++ 10 ∷ []) lines
+abbrev pub text_of_lines : List (List ℕ) → List ℕ
+text_of_lines lines = flat_map (λ line. line ++ 10 ∷ []) lines
 
 -- the lines of a text: none has LF in it, and with LF behind each they are the text, or the text whose last line lacks it
 pub record AreLines (text : List ℕ) (lines : List (List ℕ)) : Type 0 where
   pub unbroken : list_all is_unbroken lines ≡ true
-  pub whole : (ended lines ≡ text) ⊎ (ended lines ≡ text ++ 10 ∷ [])
+  pub whole : (text_of_lines lines ≡ text) ⊎ (text_of_lines lines ≡ text ++ 10 ∷ [])
 
 -- a text is cut into its lines
 abbrev pub TextsAreCutIntoLines : Type 0

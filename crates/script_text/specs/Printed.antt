@@ -21,8 +21,8 @@ abbrev pub printed_byte : ℕ → List ℕ
 printed_byte b = if b == 1 then 124 ∷ [] else if (b == 124) || (b == 92) then escaped_byte b else if is_printable b then b ∷ [] else escaped_byte b
 
 -- bytes as they are printed
-abbrev pub printed : List ℕ → List ℕ
-printed bytes = flat_map printed_byte bytes
+abbrev pub printed_text : List ℕ → List ℕ
+printed_text bytes = flat_map printed_byte bytes
 
 -- the value of a lower-case hexadecimal digit
 abbrev pub hex_value : ℕ → Option ℕ
@@ -36,14 +36,14 @@ pub record Front : Type 0 where
   pub left : List ℕ
 
 -- the same, where the text is lent
-abbrev pub lent : Option (ℕ × Bor (List ℕ)) → Option Front
-lent front = option_map (λ p. record { byte = p.0; left = p.1.now }) front
+abbrev pub lent_front : Option (ℕ × Bor (List ℕ)) → Option Front
+lent_front front = option_map (λ p. record { byte = p.0; left = p.1.now }) front
 
 -- the byte that two digits at the front of a text stand for
-abbrev pub escaped : List ℕ → Option Front
-escaped [] = None
-escaped (high ∷ []) = None
-escaped (high ∷ low ∷ left) =
+abbrev pub front_of_digits : List ℕ → Option Front
+front_of_digits [] = None
+front_of_digits (high ∷ []) = None
+front_of_digits (high ∷ low ∷ left) =
     option_and_then (λ h. option_map (λ l. record { byte = h * 16 + l; left = left }) (hex_value low)) (hex_value high)
 
 -- the byte for which the front of a text stands, and the rest of the text
@@ -51,15 +51,15 @@ unfoldable pub front_of : List ℕ → Option Front
 front_of [] = None
 front_of (b ∷ left) =
     if b == 124 then Some (record { byte = 1; left = left })
-    else (if b == 92 then escaped left else Some (record { byte = b; left = left }))
+    else (if b == 92 then front_of_digits left else Some (record { byte = b; left = left }))
 
 -- The bytes that a text stands for; none where a `\` has no two digits behind it. The number that counts down bounds
 -- how many bytes there are: no more than the text has.
-unfoldable pub meant_within : ℕ → List ℕ → Option (List ℕ)
-meant_within zero text = Some []
-meant_within (suc most) [] = Some []
-meant_within (suc most) (b ∷ left) =
-    option_and_then (λ unit. option_map (λ bytes. unit.byte ∷ bytes) (meant_within most unit.left)) (front_of (b ∷ left))
+unfoldable pub bytes_of_text_within : ℕ → List ℕ → Option (List ℕ)
+bytes_of_text_within zero text = Some []
+bytes_of_text_within (suc most) [] = Some []
+bytes_of_text_within (suc most) (b ∷ left) =
+    option_and_then (λ unit. option_map (λ bytes. unit.byte ∷ bytes) (bytes_of_text_within most unit.left)) (front_of (b ∷ left))
 
-unfoldable pub meant : List ℕ → Option (List ℕ)
-meant text = meant_within (length text) text
+unfoldable pub bytes_of_text : List ℕ → Option (List ℕ)
+bytes_of_text text = bytes_of_text_within (length text) text

@@ -1,8 +1,8 @@
 -- The text of a run's record.
 use Rattle.std.specs.Prelude.{ℕ, ◌+◌, ◌-◌, max, List, [], ◌∷◌, ◌++◌, length, decimal, codes, slice_index_or, Option, None, Some}
 use Rattle.std.specs.List.{flat_map}
-use Rattle.script_text.specs.Printed.{printed}
-use Rattle.script_text.specs.ReportLines.{spaced, indented, line, texts_by_place, stamp_word}
+use Rattle.script_text.specs.Printed.{printed_text}
+use Rattle.script_text.specs.ReportLines.{spaced_words, indented_line, line, texts_by_place, stamp_word}
 use Rattle.script_text.specs.declared.journal.Entry.{Entry}
 use Rattle.script_text.specs.declared.journal.Entry.TheVariants.{Arrive, Admin, Bind, Plan, Leave, Granted, Refused, Send, Release, Timeout}
 use Rattle.script_text.specs.declared.journal.Why.{Why}
@@ -54,21 +54,21 @@ last_lease_of [] = 0
 last_lease_of (h ∷ hs) = max h.lease (last_lease_of hs)
 
 unfoldable pub inbound_line : ℕ → List ℕ → List ℕ
-inbound_line pos body = indented (codes "in" ∷ decimal pos ∷ printed body ∷ [])
+inbound_line pos body = indented_line (codes "in" ∷ decimal pos ∷ printed_text body ∷ [])
 
 -- a number counts from 1, a place from 0
 unfoldable pub outbound_line : ℕ → OutEntry → List ℕ
-outbound_line place entry = indented (codes "out" ∷ decimal (place + 1) ∷ stamp_word entry.at ∷ printed entry.body ∷ [])
+outbound_line place entry = indented_line (codes "out" ∷ decimal (place + 1) ∷ stamp_word entry.at ∷ printed_text entry.body ∷ [])
 
 unfoldable pub session_line : ℕ → SessionRecord → List ℕ
 session_line s session =
-    line (codes "session") (decimal s ∷ printed session.names.us ∷ printed session.names.them ∷ codes "owner" ∷ decimal (owner_of session.holdings) ∷ codes "lease" ∷ decimal (last_lease_of session.holdings) ∷ codes "in" ∷ decimal (length session.inbound) ∷ codes "out" ∷ decimal (length session.outbound) ∷ [])
+    line (codes "session") (decimal s ∷ printed_text session.names.us ∷ printed_text session.names.them ∷ codes "owner" ∷ decimal (owner_of session.holdings) ∷ codes "lease" ∷ decimal (last_lease_of session.holdings) ∷ codes "in" ∷ decimal (length session.inbound) ∷ codes "out" ∷ decimal (length session.outbound) ∷ [])
 
 abbrev pub session_text : ℕ → SessionRecord → List ℕ
 session_text s session =
     session_line s session
-    ++ flat_map (λ entry. indented (entry_words entry)) session.entries
-    ++ flat_map (λ holding. indented (holding_words holding)) session.holdings
+    ++ flat_map (λ entry. indented_line (entry_words entry)) session.entries
+    ++ flat_map (λ holding. indented_line (holding_words holding)) session.holdings
     ++ texts_by_place inbound_line 0 session.inbound
     ++ texts_by_place outbound_line 0 session.outbound
 
@@ -99,17 +99,17 @@ bound_word (Some s) = decimal s
 -- what was written, where something was
 unfoldable pub written_line : List ℕ → List ℕ
 written_line [] = []
-written_line (b ∷ bytes) = indented (codes "wrote" ∷ printed (b ∷ bytes) ∷ [])
+written_line (b ∷ bytes) = indented_line (codes "wrote" ∷ printed_text (b ∷ bytes) ∷ [])
 
 -- the line of a connection up to its cause
 unfoldable pub connection_numbers : ℕ → Option ℕ → ℕ → ℕ → ℕ → List ℕ
 connection_numbers c session taken garbled written =
-    codes "connection" ++ spaced (decimal c ∷ codes "session" ∷ bound_word session ∷ codes "taken" ∷ decimal taken ∷ codes "garbled" ∷ decimal garbled ∷ codes "written" ∷ decimal written ∷ codes "cause" ∷ [])
+    codes "connection" ++ spaced_words (decimal c ∷ codes "session" ∷ bound_word session ∷ codes "taken" ∷ decimal taken ∷ codes "garbled" ∷ decimal garbled ∷ codes "written" ∷ decimal written ∷ codes "cause" ∷ [])
 
 abbrev pub connection_text : ℕ → ConnRecord → List ℕ
 connection_text c connection =
     connection_numbers c connection.session (length connection.taken) connection.garbled (length connection.written)
-    ++ indented (cause_words connection.cause)
+    ++ indented_line (cause_words connection.cause)
     ++ written_line connection.written
 
 unfoldable pub library_line : LibReport → List ℕ

@@ -5,19 +5,19 @@ use Rattle.std.specs.List.{flat_map}
 use Rattle.gate_io.specs.declared.clocks.TheConstants.{LAST_MOMENT}
 use Rattle.script_text.specs.declared.report_lines.ReportWord.{ReportWord}
 use Rattle.script_text.specs.declared.report_lines.ReportWord.TheVariants.{Word, Number, Stamp, Printed}
-use Rattle.script_text.specs.Printed.{printed}
+use Rattle.script_text.specs.Printed.{printed_text}
 
 -- words with a space before each
-abbrev pub spaced : List (List ℕ) → List ℕ
-spaced words = flat_map (λ word. 32 ∷ word) words
+abbrev pub spaced_words : List (List ℕ) → List ℕ
+spaced_words words = flat_map (λ word. 32 ∷ word) words
 
 -- a line that begins with a space, or the rest of one
-abbrev pub indented : List (List ℕ) → List ℕ
-indented words = spaced words ++ 10 ∷ []
+abbrev pub indented_line : List (List ℕ) → List ℕ
+indented_line words = spaced_words words ++ 10 ∷ []
 
 -- a line that begins with a word
 abbrev pub line : List ℕ → List (List ℕ) → List ℕ
-line head words = head ++ indented words
+line head words = head ++ indented_line words
 
 -- texts of values in order, each with its place
 abbrev pub texts_by_place : {X : Type 0} → (ℕ → X → List ℕ) → ℕ → List X → List ℕ
@@ -33,4 +33,4 @@ abbrev pub word_text : ReportWord → List ℕ
 word_text (Word text) = text.now
 word_text (Number n) = decimal n
 word_text (Stamp ms) = stamp_word ms
-word_text (Printed bytes) = printed bytes.now
+word_text (Printed bytes) = printed_text bytes.now

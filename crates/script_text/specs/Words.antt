@@ -3,6 +3,7 @@ use Rattle.std.specs.Prelude.{ℕ, ◌^◌, Bool, not, ◌&&◌, ◌||◌, ◌==
 use Rattle.std.specs.List.{list_all}
 use Rattle.std.specs.Str.{all_ascii_digits, bytes_eq}
 use Rattle.std.specs.Str.Parse.{digits_value}
+use Rattle.fix_fields.specs.declared.limits.TheConstants.{LONGEST_NAME}
 use Rattle.script_text.specs.declared.lines.Opening.{Opening}
 use Rattle.script_text.specs.declared.lines.Opening.TheVariants as opening
 use Rattle.script_text.specs.declared.lines.ConfigWord.{ConfigWord}
@@ -84,6 +85,6 @@ natural_of word =
 abbrev pub is_name_byte : ℕ → Bool
 is_name_byte b = nat_le 33 b && nat_le b 126 && not ((b == 124) || (b == 92) || (b == 61))
 
--- 1 to 32 such bytes
+-- 1 to LONGEST_NAME such bytes
 unfoldable pub is_name : List ℕ → Bool
-is_name word = nat_le 1 (length word) && nat_le (length word) 32 && list_all is_name_byte word
+is_name word = nat_le 1 (length word) && nat_le (length word) LONGEST_NAME && list_all is_name_byte word

@@ -22,8 +22,6 @@ mod records;
 mod report;
 mod report_lines;
 mod steps;
-#[cfg(test)]
-mod tests;
 mod words;
 
 pub use causes::Cause;

@@ -2,7 +2,7 @@
 //! digits is the byte with that value.
 
 ghost use Rattle.std.specs.Prelude.{◌≡◌, ◌<◌, ◌++◌, IfOk, IfSome, OnErr, OnOk, length, take};
-ghost use Rattle.script_text.specs.Printed.{printed, printed_byte, escaped_byte, escaped, hex_digit_of, hex_value, is_printable, front_of, lent, meant};
+ghost use Rattle.script_text.specs.Printed.{printed_text, printed_byte, escaped_byte, front_of_digits, hex_digit_of, hex_value, is_printable, front_of, lent_front, bytes_of_text};
 
 use gate_io::{Bytes, NoMemory};
 use std::alloc::{AllocError, Global};
@@ -19,7 +19,7 @@ pub(crate) fn is_printable(b: u8) -> bool
 
 /// Puts bytes behind `out` as they are printed. Without memory it is as it was.
 pub fn push_printed(out: &mut Vec<u8>, bytes: &[u8]) -> Result<(), NoMemory>
-    ensures ok { OnOk result (out.new.items ≡ out.old.items ++ printed bytes.now) }
+    ensures ok { OnOk result (out.new.items ≡ out.old.items ++ printed_text bytes.now) }
     ensures err { OnErr result (out.new.items ≡ out.old.items) }
 {
     let before = out.len();
@@ -32,7 +32,7 @@ pub fn push_printed(out: &mut Vec<u8>, bytes: &[u8]) -> Result<(), NoMemory>
 
 /// Puts them there one by one. Without memory a part of what they are printed as is there.
 fn push_each(out: &mut Vec<u8>, bytes: &[u8]) -> Result<(), NoMemory>
-    ensures ok { OnOk result (out.new.items ≡ out.old.items ++ printed bytes.now) }
+    ensures ok { OnOk result (out.new.items ≡ out.old.items ++ printed_text bytes.now) }
     ensures begins { take (length out.old.items) out.new.items ≡ out.old.items }
 {
     for b in bytes {
@@ -72,7 +72,7 @@ fn hex_digit(n: u8) -> u8
 /// The bytes that a printed text stands for; none where a `\` has no two lower-case hexadecimal
 /// digits behind it.
 pub fn read_text(alloc: Global, text: &[u8]) -> Result<Option<Bytes>, NoMemory>
-    ensures { IfOk result (λ bytes. bytes ≡ meant text.now) }
+    ensures { IfOk result (λ bytes. bytes ≡ bytes_of_text text.now) }
 {
     let mut bytes = Vec::new(alloc);
     let mut rest = text;
@@ -89,7 +89,7 @@ pub fn read_text(alloc: Global, text: &[u8]) -> Result<Option<Bytes>, NoMemory>
 /// The byte for which the front of a text stands, and the rest of the text.
 #[tactic(auto, unfolding(crate::specs::Printed::front_of))]
 fn split_front(text: &[u8]) -> Option<(u8, &[u8])>
-    ensures { lent result ≡ front_of text.now }
+    ensures { lent_front result ≡ front_of text.now }
 {
     match text {
         [] => None,
@@ -101,7 +101,7 @@ fn split_front(text: &[u8]) -> Option<(u8, &[u8])>
 
 /// The byte that two digits at the front of a text stand for, and the rest of the text.
 fn split_escaped(text: &[u8]) -> Option<(u8, &[u8])>
-    ensures { lent result ≡ escaped text.now }
+    ensures { lent_front result ≡ front_of_digits text.now }
 {
     let [high, low, left @ ..] = text else {
         return None;

@@ -18,6 +18,7 @@ use crate::parts::{Part, demand};
 use crate::printed::is_printable;
 use crate::steps::Script;
 use crate::words::{opening_of, split_word};
+use fix_fields::laws::moments_have_a_bound;
 use gate_io::NoMemory;
 use std::alloc::Global;
 
@@ -51,6 +52,7 @@ pub fn read_script(alloc: Global, text: &[u8], serving: bool) -> Result<Script, 
         number += 1;
         rest = behind;
     }
+    moments_have_a_bound();
     Ok(draft.finish())
 }
 

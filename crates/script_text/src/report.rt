@@ -2,7 +2,7 @@
 
 ghost use Rattle.std.specs.Prelude.{◌≡◌, ◌-◌, ◌<◌, ◌^◌, [], ◌∷◌, ◌++◌, IfOk, OnOk, decimal, map, length};
 ghost use Rattle.std.specs.List.{flat_map};
-ghost use Rattle.script_text.specs.ReportLines.{indented, texts_by_place, word_text};
+ghost use Rattle.script_text.specs.ReportLines.{indented_line, texts_by_place, word_text};
 ghost use Rattle.script_text.specs.Report.{bound_word, why_words, entry_words, holding_words, owner_of, last_lease_of, inbound_line, outbound_line, session_text, stray_line, cause_words, connection_numbers, written_line, connection_text, library_line, report_of};
 
 use crate::causes::Cause;
@@ -92,7 +92,7 @@ fn put_session(out: &mut Vec<u8>, s: u64, session: &SessionRecord) -> Result<(),
 }
 
 fn put_entries(out: &mut Vec<u8>, entries: &[Entry]) -> Result<(), NoMemory>
-    ensures { OnOk result (out.new.items ≡ out.old.items ++ flat_map (λ entry. indented (entry_words entry)) entries.now) }
+    ensures { OnOk result (out.new.items ≡ out.old.items ++ flat_map (λ entry. indented_line (entry_words entry)) entries.now) }
 {
     for entry in entries {
         put_entry(out, entry)?;
@@ -101,7 +101,7 @@ fn put_entries(out: &mut Vec<u8>, entries: &[Entry]) -> Result<(), NoMemory>
 }
 
 fn put_holdings(out: &mut Vec<u8>, holdings: &[Holding]) -> Result<(), NoMemory>
-    ensures { OnOk result (out.new.items ≡ out.old.items ++ flat_map (λ holding. indented (holding_words holding)) holdings.now) }
+    ensures { OnOk result (out.new.items ≡ out.old.items ++ flat_map (λ holding. indented_line (holding_words holding)) holdings.now) }
 {
     for holding in holdings {
         put_holding(out, holding)?;
@@ -154,7 +154,7 @@ fn last_lease_of(holdings: &[Holding]) -> u64
 
 #[tactic(auto, unfolding(crate::specs::Report::entry_words))]
 fn put_entry(out: &mut Vec<u8>, entry: &Entry) -> Result<(), NoMemory>
-    ensures { OnOk result (out.new.items ≡ out.old.items ++ indented (entry_words entry.now)) }
+    ensures { OnOk result (out.new.items ≡ out.old.items ++ indented_line (entry_words entry.now)) }
 {
     match entry {
         Entry::Arrive { pos } => put_indented(out, &[Word("arrive"), Number(*pos)]),
@@ -231,7 +231,7 @@ fn put_ended(
     library: u8,
     count: u32,
 ) -> Result<(), NoMemory>
-    ensures { OnOk result (out.new.items ≡ out.old.items ++ indented (how.now ∷ decimal lease ∷ decimal library ∷ decimal count ∷ [])) }
+    ensures { OnOk result (out.new.items ≡ out.old.items ++ indented_line (how.now ∷ decimal lease ∷ decimal library ∷ decimal count ∷ [])) }
 {
     put_indented(
         out,
@@ -246,7 +246,7 @@ fn put_ended(
 
 #[tactic(auto, unfolding(crate::specs::Report::why_words))]
 fn put_why(out: &mut Vec<u8>, why: &Why) -> Result<(), NoMemory>
-    ensures { OnOk result (out.new.items ≡ out.old.items ++ indented (why_words why.now)) }
+    ensures { OnOk result (out.new.items ≡ out.old.items ++ indented_line (why_words why.now)) }
 {
     match why {
         Why::UnknownSession { s } => {
@@ -272,7 +272,7 @@ fn put_why(out: &mut Vec<u8>, why: &Why) -> Result<(), NoMemory>
 
 #[tactic(auto, unfolding(crate::specs::Report::holding_words))]
 fn put_holding(out: &mut Vec<u8>, holding: &Holding) -> Result<(), NoMemory>
-    ensures { OnOk result (out.new.items ≡ out.old.items ++ indented (holding_words holding.now)) }
+    ensures { OnOk result (out.new.items ≡ out.old.items ++ indented_line (holding_words holding.now)) }
 {
     put_indented(
         out,
@@ -394,7 +394,7 @@ fn put_written(out: &mut Vec<u8>, written: &[u8]) -> Result<(), NoMemory>
 
 #[tactic(auto, unfolding(crate::specs::Report::cause_words))]
 fn put_cause(out: &mut Vec<u8>, cause: Option<Cause>) -> Result<(), NoMemory>
-    ensures { OnOk result (out.new.items ≡ out.old.items ++ indented (cause_words cause)) }
+    ensures { OnOk result (out.new.items ≡ out.old.items ++ indented_line (cause_words cause)) }
 {
     let Some(cause) = cause else {
         return put_indented(out, &[Word("none")]);

@@ -1,7 +1,7 @@
 //! Lines of the report: words with one space before each.
 
 ghost use Rattle.std.specs.Prelude.{◌≡◌, ◌++◌, OnOk, map};
-ghost use Rattle.script_text.specs.ReportLines.{word_text, spaced, indented, line};
+ghost use Rattle.script_text.specs.ReportLines.{word_text, spaced_words, indented_line, line};
 
 use crate::printed::push_printed;
 use fix_fields::stamp_text;
@@ -29,7 +29,7 @@ pub fn put_line(out: &mut Vec<u8>, head: &str, words: &[ReportWord<'_>]) -> Resu
 
 /// A line that begins with a space, or the rest of one.
 pub fn put_indented(out: &mut Vec<u8>, words: &[ReportWord<'_>]) -> Result<(), NoMemory>
-    ensures { OnOk result (out.new.items ≡ out.old.items ++ indented (map word_text words.now)) }
+    ensures { OnOk result (out.new.items ≡ out.old.items ++ indented_line (map word_text words.now)) }
 {
     put_spaced(out, words)?;
     out.push(b'\n')?;
@@ -38,7 +38,7 @@ pub fn put_indented(out: &mut Vec<u8>, words: &[ReportWord<'_>]) -> Result<(), N
 
 /// Words with a space before each.
 pub fn put_spaced(out: &mut Vec<u8>, words: &[ReportWord<'_>]) -> Result<(), NoMemory>
-    ensures { OnOk result (out.new.items ≡ out.old.items ++ spaced (map word_text words.now)) }
+    ensures { OnOk result (out.new.items ≡ out.old.items ++ spaced_words (map word_text words.now)) }
 {
     for word in words {
         out.push(b' ')?;

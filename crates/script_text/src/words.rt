@@ -6,12 +6,10 @@ ghost use Rattle.std.specs.Option.{option_map};
 ghost use Rattle.script_text.specs.Words.{word_in, behind_word, config_word_of, limit_word_of, event_word_of, lib_word_of, opening_of, natural_of, is_name_byte, is_name};
 
 use crate::lines::{ConfigWord, EventWord, LibWord, LimitWord, Opening};
+use fix_fields::LONGEST_NAME;
 
 /// The most digits of a number, leading zeros among them.
 const MOST_DIGITS: usize = 20;
-
-/// The longest name of a session's party.
-const LONGEST_NAME: usize = 32;
 
 /// The bytes up to the first space, and what stands behind it, if there is one.
 pub(crate) fn split_word(text: &[u8]) -> (&[u8], Option<&[u8]>)

@@ -3,7 +3,7 @@ ghost use Rattle.std.specs.Prelude.{◌≡◌, ◌<◌, ◌≤◌, true, [], len
 ghost use Rattle.lease_words.specs.Leases.{is_running, held_lease};
 ghost use Rattle.lease_words.specs.Views.{engine_at, library_at, pending};
 
-use fix_fields::check_body;
+use fix_fields::{LONGEST_APPLICATION_BODY, check_body};
 use gate_io::Bytes;
 use lease_core::{MOST_LEASES, Standing, Word, write_word};
 use lease_words::{EngineSeat, Item, Leases, LibrarySeat, Lost, SendError, Sent};
@@ -81,7 +81,7 @@ fn hold(leases: &Leases, seat: &mut LibrarySeat, s: u16) -> Option<u32>
 fn item(alloc: Global, lease: u32, body: &[u8]) -> Option<Item>
     ensures { IfSome result (λ i. i.lease ≡ lease) }
 {
-    if body.len() > 8192 || check_body(body).is_err() {
+    if body.len() > LONGEST_APPLICATION_BODY || check_body(body).is_err() {
         return None;
     }
     let body = Bytes::of(Vec::from_slice(alloc, body).ok()?);

@@ -3,7 +3,7 @@ use Rattle.std.proofs.lemmas.List.{map_push}
 use Rattle.byte_tests.specs.declared.feeding.OwnedPiece.{OwnedPiece}
 use Rattle.fix_frame.specs.Cut.{CutPiece, IsCutSoFar}
 use Rattle.byte_tests.specs.Parts.{kept}
-use Rattle.fix_frame.specs.Cutting.{seen}
+use Rattle.fix_frame.specs.Cutting.{lent_piece}
 use Rattle.byte_tests.proofs.feeding.drain.Goals as goal
 
 -- one more piece
@@ -20,6 +20,6 @@ loop-piece-preserved c =
       limit = h.limit ∙ c.loop-piece.invariant.limit;
       so_far = λ text before k.
           subst (λ (ps : List CutPiece). IsCutSoFar c.next.follows.lender-at-none.limit text ps c.next.follows.lender-at-none.held)
-          (more before c.loop-piece.given.items c.push.new.self.items c.in_ok-owned.field-0 (seen c.in-Some.piece) c.in_ok-owned.ensures c.in_ok-push.ensures.items)
+          (more before c.loop-piece.given.items c.push.new.self.items c.in_ok-owned.field-0 (lent_piece c.in-Some.piece) c.in_ok-owned.ensures c.in_ok-push.ensures.items)
           (h.so_far text (before ++ map kept c.loop-piece.given.items) (c.loop-piece.invariant.so_far text before k));
     }

@@ -1,7 +1,7 @@
 use Rattle.std.proofs.Common.{◌≡◌, ◌+◌, ◌++◌, ◌∷◌, [], ℕ, true, false, length, sym, ap, ◌∙◌, arith, subst}
 use Rattle.std.specs.Option.{is_some}
 use Rattle.fix_frame.specs.Cut.{cut, onto}
-use Rattle.fix_frame.specs.Cutting.{seen}
+use Rattle.fix_frame.specs.Cutting.{lent_piece}
 use Rattle.gateway_run.specs.Handling.{World, world, ConnectionState, handle_all, handle_piece, garbled_in}
 use Rattle.gateway_run.proofs.Kept.{kept_behind}
 use Rattle.gateway_run.proofs.Handled.{handled_ended, handled_next, none_when, garbled_least}
@@ -10,7 +10,7 @@ use Rattle.gateway_run.proofs.engine.handle_pieces.Goals as goal
 pub loop-piece-preserved : goal.loop-piece-preserved
 loop-piece-preserved c =
     let h = rw c.in-Some.is at c.next.follows.holds-at-none in
-    let piece = seen c.in-Some.piece in
+    let piece = lent_piece c.in-Some.piece in
     let i = c.loop-piece.invariant in
     let old = world c.loop-piece.desk c.loop-piece.connection.state in
     let done : world c.handle.new.desk c.handle.new.state ≡ handle_piece c.args.at piece old = c.in_ok-handle.ensures in
@@ -39,7 +39,7 @@ loop-piece-preserved c =
 pub returns-then-has_ended-clause-world : goal.returns-then-has_ended-clause-world
 returns-then-has_ended-clause-world c =
     let h = rw c.in-Some.is at c.next.follows.holds-at-none in
-    let piece = seen c.in-Some.piece in
+    let piece = lent_piece c.in-Some.piece in
     let i = c.loop-piece.invariant in
     let old = world c.loop-piece.desk c.loop-piece.connection.state in
     let done : world c.handle.new.desk c.handle.new.state ≡ handle_piece c.args.at piece old = c.in_ok-handle.ensures in
@@ -53,14 +53,14 @@ returns-then-has_ended-clause-world c =
 
 pub returns-then-has_ended-clause-number : goal.returns-then-has_ended-clause-number
 returns-then-has_ended-clause-number c =
-    let piece = seen c.in-Some.piece in
+    let piece = lent_piece c.in-Some.piece in
     let old = world c.loop-piece.desk c.loop-piece.connection.state in
     let done : world c.handle.new.desk c.handle.new.state ≡ handle_piece c.args.at piece old = c.in_ok-handle.ensures in
     ap (λ (w : World). w.connection.c) done ∙ (kept_behind c.args.at piece old).c ∙ c.loop-piece.invariant.number
 
 pub returns-then-has_ended-clause-taken : goal.returns-then-has_ended-clause-taken
 returns-then-has_ended-clause-taken c =
-    let piece = seen c.in-Some.piece in
+    let piece = lent_piece c.in-Some.piece in
     let old = world c.loop-piece.desk c.loop-piece.connection.state in
     let done : world c.handle.new.desk c.handle.new.state ≡ handle_piece c.args.at piece old = c.in_ok-handle.ensures in
     ap (λ (w : World). w.connection.taken) done ∙ (kept_behind c.args.at piece old).taken ∙ c.loop-piece.invariant.taken

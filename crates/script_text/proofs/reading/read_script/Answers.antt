@@ -24,4 +24,4 @@ returns-clause-ok c =
 pub returns-clause-lawful : goal.returns-clause-lawful
 returns-clause-lawful c =
     let none : length c.loop-rest.rest.now ≡ 0 = grind (arith, nat_tests) in
-    lawful-script _ _ _ (reading_end _ _ _ _ _ none c.loop-rest.invariant.meaning ∙ ap Ok (sym c.finish.ensures))
+    lawful-script c.moments_have_a_bound.ensures _ _ _ (reading_end _ _ _ _ _ none c.loop-rest.invariant.meaning ∙ ap Ok (sym c.finish.ensures))

@@ -2,7 +2,7 @@ use Rattle.std.proofs.Common.{◌≡◌, ℕ, length, drop, refl, sym, subst, ap
 use Rattle.fix_frame.specs.Store.{Store}
 use Rattle.fix_frame.specs.Frame.{stretch_of}
 use Rattle.fix_frame.specs.Cut.{waiting, stray, standing_at, CutPiece, IsPiece, garbled, piece_of}
-use Rattle.fix_frame.specs.Cutting.{seen}
+use Rattle.fix_frame.specs.Cutting.{lent_piece}
 use Rattle.fix_frame.specs.Look.{IsStretch, IsStretchText}
 use Rattle.fix_frame.proofs.Nexts.{none_after, none_piece, none_cut, none_room, some_stray, stray_stands, whole_stands, some_piece, some_cut, some_after, is_piece, quiet-now}
 use Rattle.fix_frame.proofs.cutter.Cutter.next.Goals as goal
@@ -64,7 +64,7 @@ returns-in-Shaped c =
     let p : IsStretch s.limit s.ring.bytes c.in-Shaped.body c.in-Shaped.length = rw c.held-held.ensures at c.in-Shaped.ensures in
     let h = whole_stands s.limit s.ring.bytes p.field p.body p.digits p.stands in
     let text : IsStretchText c.take.result.now c.in-Shaped.body p.field p.body p.digits = record { whole = c.take.ensures.value ∙ p.text; place = p.place; check_field = p.check_field } in
-    let given : seen c.piece_of.result ≡ piece_of p.field p.body p.digits = c.piece_of.ensures p.field p.body p.digits text in
+    let given : lent_piece c.piece_of.result ≡ piece_of p.field p.body p.digits = c.piece_of.ensures p.field p.body p.digits text in
     let size : c.in-Shaped.length ≡ length (stretch_of p.field p.body p.digits) = omega (arith, ap length p.text, length-take c.in-Shaped.length s.ring.bytes, p.within) in
     let left : c.take.follows.lender-at-none.bytes ≡ drop (length (stretch_of p.field p.body p.digits)) s.ring.bytes =
     ap (λ (r : Store). r.bytes) c.take.follows.holds-at-none ∙ ap (λ (i : ℕ). drop i s.ring.bytes) size in

@@ -35,4 +35,4 @@ pub returns-clause-showable : goal.returns-clause-showable
 returns-clause-showable c =
     let shape : c.seat.inside.seat.me.0.shape ≡ c.self.inside.table.shared.key = search rules in
     let told = look_told _ 0 c.args.s _ _ _ _ _ _ (engine_rests _ _ _ c.seat.invariant shape) c.lease_word.ensures c.load-n.ensures.2 in
-    subst (λ (z : EngineView × Word). IsShowable (engine_session z.0.knows c.args.s).lines z.1) (λ j. (c.seat.view_is j, sym c.read_word-word.ensures.word j)) (look_shows _ _ _ _ _ told.1)
+    subst (λ (z : EngineView × Word). IsShowable (engine_session z.0.knows c.args.s).lines z.1) (λ j. (c.seat.view_is j, sym c.read_word-word.ensures.word j)) (look_shows _ _ _ _ _ c.word_laws.ensures.showable told.1)

@@ -32,7 +32,7 @@ returns-clause-can_time_out c =
     let shape : c.seat.inside.seat.me.0.shape ≡ c.self.inside.table.shared.key = search rules in
     let told = revoke_told _ 0 c.args.s _ _ 0 _ _ _ _ (engine_rests _ _ _ c.seat.invariant shape) c.lease_word.ensures c.fetch_or-n.ensures.2 in
     let ran = subst (λ (v : EngineView). is_running (engine_session v.knows c.args.s).lines ≡ true) (sym c.seat.view_is) c.requires.active in
-    subst (λ (z : EngineView × Word). CanTimeOut (engine_session z.0.knows c.args.s).lines z.1) (λ j. (c.seat.view_is j, sym c.read_word-word.ensures.word j)) (revoke_times_out _ _ _ _ _ told.1 ran)
+    subst (λ (z : EngineView × Word). CanTimeOut (engine_session z.0.knows c.args.s).lines z.1) (λ j. (c.seat.view_is j, sym c.read_word-word.ensures.word j)) (revoke_times_out _ _ _ _ _ c.word_laws.ensures.can_time_out told.1 ran)
 
 pub returns-clause-ended : goal.returns-clause-ended
 returns-clause-ended c =

@@ -1,0 +1,68 @@
+//! Scripts at their limits, and one beyond.
+
+use crate::answers::{error_of, fault};
+use script_text::{LONGEST_SCRIPT, ScriptKind, read_script};
+use std::alloc::Global;
+use std::test::Fail;
+
+#[test]
+fn the_longest_script_and_one_byte_more(rt: HostRuntime) -> Result<(), Fail> {
+    let alloc = rt.alloc();
+    let mut text = vec![in alloc; b'\n'; LONGEST_SCRIPT]?;
+    let script = read_script(alloc, &text, false)?;
+    assert_eq!(rt; script.steps.as_slice().len(), 0);
+    text.push(b'\r')?;
+    assert_eq!(rt; error_of(&rt, &text, false), fault(0, ScriptKind::TooLong));
+    Ok(())
+}
+
+/// The script `connect` and a frame with a body of so many bytes.
+fn frame_script(alloc: Global, length: usize) -> Result<Vec<u8>, Fail> {
+    let mut text = Vec::from_slice(alloc, b"connect\nframe 0 35=D|")?;
+    for _ in 5..length {
+        text.push(b'|')?;
+    }
+    Ok(text)
+}
+
+#[test]
+fn the_longest_frame_and_one_byte_more(rt: HostRuntime) -> Result<(), Fail> {
+    // `8=FIX.4.4|9=65511|`, the body, and `10=ccc|` are 65,536 bytes.
+    let script = read_script(rt.alloc(), &frame_script(rt.alloc(), 65_511)?, false)?;
+    assert_eq!(rt; script.steps.as_slice().len(), 2);
+    let longer = frame_script(rt.alloc(), 65_512)?;
+    assert_eq!(rt;
+        error_of(&rt, &longer, false),
+        fault(2, ScriptKind::BadText)
+    );
+    Ok(())
+}
+
+#[test]
+fn sessions_and_connections_at_their_limits(rt: HostRuntime) -> Result<(), Fail> {
+    let alloc = rt.alloc();
+    let mut text = Vec::new(alloc);
+    for i in 0..64 {
+        text.extend_from_slice(format!(in alloc; "session GATE P{i}\n")?.as_bytes())?;
+    }
+    for _ in 0..1_024 {
+        text.extend_from_slice(b"connect\n")?;
+    }
+    let script = read_script(alloc, &text, false)?;
+    assert_eq!(rt; script.config.names.as_slice().len(), 64);
+    assert_eq!(rt; script.steps.as_slice().len(), 1_024);
+    text.extend_from_slice(b"finish 1023\nconnect\n")?;
+    assert_eq!(rt;
+        error_of(&rt, &text, false),
+        fault(1_090, ScriptKind::OutOfRange)
+    );
+    let mut text = Vec::new(alloc);
+    for i in 0..65 {
+        text.extend_from_slice(format!(in alloc; "session GATE P{i}\n")?.as_bytes())?;
+    }
+    assert_eq!(rt;
+        error_of(&rt, &text, false),
+        fault(65, ScriptKind::OutOfRange)
+    );
+    Ok(())
+}
