@@ -1,5 +1,5 @@
 -- One connection: what was taken of it, the pieces handed out so far, what is to be written, and its end.
-use Rattle.std.specs.Prelude.{◌≡◌, ℕ, ◌+◌, ◌-◌, ◌≤◌, Bool, true, false, nat_lt, if◌then◌else◌, List, [], ◌∷◌, ◌++◌, length, drop, sum_by, Option, None, Some, option_map, unwrap_or}
+use Rattle.std.specs.Prelude.{◌≡◌, ℕ, ◌+◌, ◌-◌, ◌≤◌, Bool, true, false, nat_lt, if◌then◌else◌, List, [], ◌++◌, length, drop, sum_by, Option, None, Some, option_map, unwrap_or}
 use Rattle.fix_frame.specs.declared.layout.TheConstants.{LONGEST_FRAME, LEAST_ROOM}
 use Rattle.fix_frame.specs.Cut.{CutPiece, good, garbled, Found, IsCutSoFar, piece_at}
 use Rattle.session_core.specs.declared.causes.Cause.{Cause}
@@ -67,13 +67,6 @@ abbrev pub after_next : ConnectionState → ConnectionState
 after_next state =
     let next = piece_at LONGEST_FRAME state.held in
     record state { held = held_behind next state.held; garbled = state.garbled + garbled_of (option_map (λ found. found.piece) next) }
-
--- a good piece was passed by: it is among the pieces handed out so far, and nobody has it
-pub record IsPassedBy (old new : ConnectionState) : Type 0 where
-  pub body : List ℕ
-  pub size : ℕ
-  pub found : piece_at LONGEST_FRAME old.held ≡ Some (record { piece = good body; size = size })
-  pub given : (pieces : List CutPiece) → IsGiven old pieces → IsGiven new (pieces ++ good body ∷ [])
 
 -- once it ends by a cause: the first one counts
 abbrev pub after_end : Cause → ConnectionState → ConnectionState

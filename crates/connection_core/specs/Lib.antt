@@ -1,5 +1,4 @@
 pub mod Outgoing
 pub mod Items
 pub mod Connection
-pub mod Owned
 pub mod Record

@@ -8,8 +8,8 @@ ghost use Rattle.resend_plan.specs.Wire.{NamesEntry};
 ghost use Rattle.resend_plan.specs.Fit.{AreShort, HasFitBodies};
 ghost use Rattle.connection_core.specs.Outgoing.{HasMore, after_preparing, after_preparing_first, no_outgoing, waiting_count, waiting_text};
 ghost use Rattle.connection_core.specs.Items.{AreItemsOf};
-ghost use Rattle.connection_core.specs.Connection.{IsGiven, IsLate, IsPassedBy, after_end, after_next, after_taking, fresh, fresh_dial, room, slow_cause};
-ghost use Rattle.connection_core.specs.Owned.{cut_piece};
+ghost use Rattle.connection_core.specs.Connection.{IsGiven, IsLate, after_end, after_next, after_taking, fresh, fresh_dial, room, slow_cause};
+ghost use Rattle.fix_frame.specs.Owned.{cut_piece};
 ghost use Rattle.connection_core.specs.Record.{record_of};
 ghost use Rattle.connection_core.specs.contracts.connection.Connection.{the_row as connection_row};
 ghost use Rattle.connection_core.specs.contracts.outbox.Outbox.{the_row as outbox_row};
@@ -17,22 +17,13 @@ ghost use Rattle.connection_core.specs.contracts.outbox.Outbox.{the_row as outbo
 use crate::limits::{LOGON_WAIT, MOST_READ, MOST_WAITING};
 use crate::outbox::Outbox;
 use crate::records::ConnRecord;
-use fix_frame::{Cutter, LONGEST_FRAME, Piece};
+use fix_frame::{Cutter, LONGEST_FRAME, OwnedPiece};
 use gate_io::{Bytes, NoMemory};
 use message_log::OutLog;
 use resend_plan::Names2;
 use session_core::Cause;
 use std::alloc::Global;
 use std::marker::Model;
-
-/// A piece of the bytes of a connection, in memory of its own.
-#[derive(Debug, Drop)]
-pub enum OwnedPiece {
-    /// The body of a frame whose checksum is right.
-    Good(Vec<u8>),
-    /// So many bytes that belong to no frame.
-    Garbled { length: usize },
-}
 
 /// A connection: what came of it, what is to be written on it, the session to which it is bound, and
 /// its end. It stands until it has a cause.
@@ -182,10 +173,10 @@ impl Connection {
     }
 
     /// The next piece of what was taken, or None where more bytes are wanted. Garbled bytes are
-    /// counted. Without memory the piece, which is a good one, is passed by.
+    /// counted. Without memory for its body a good piece waits to be asked for again.
     pub fn next(&mut self, alloc: Global) -> Result<Option<OwnedPiece>, NoMemory>
         requires stands { IsNone self.old.cause }
-        ensures after { self.new ≡ after_next self.old }
+        ensures after { OnOk result (self.new ≡ after_next self.old) }
         // What stands at the beginning of what is held.
         ensures piece { IfOk result (λ given. option_map cut_piece given ≡ option_map (λ found. found.piece) (piece_at LONGEST_FRAME self.old.held)) }
         ensures none { IfOk result (λ given. IsNone given ↔ ((cut LONGEST_FRAME self.old.held).pieces ≡ [])) }
@@ -197,17 +188,13 @@ impl Connection {
         ensures given { (pieces : List CutPiece) → IsGiven self.old pieces → IfOk result (λ given. MatchOption given
             (IsGiven self.new pieces × ((cut LONGEST_FRAME self.old.taken).pieces ≡ pieces))
             (λ piece. IsGiven self.new (pieces ++ cut_piece piece ∷ []))) }
-        // One piece more was passed by.
-        ensures err { OnErr result (IsPassedBy self.old self.new) }
+        ensures err { OnErr result (self.new ≡ self.old) }
     {
-        match self.cutter.next() {
-            None => Ok(None),
-            Some(Piece::Garbled { length }) => {
-                self.garbled += length as u64;
-                Ok(Some(OwnedPiece::Garbled { length }))
-            }
-            Some(Piece::Good(body)) => Ok(Some(OwnedPiece::Good(Vec::from_slice(alloc, body)?))),
+        let piece = self.cutter.take_next(alloc)?;
+        if let Some(OwnedPiece::Garbled { length }) = &piece {
+            self.garbled += *length as u64;
         }
+        Ok(piece)
     }
 
     /// Binds it to a session.

@@ -11,7 +11,8 @@ mod limits;
 mod outbox;
 mod records;
 
-pub use connection::{Connection, OwnedPiece};
+pub use connection::Connection;
+pub use fix_frame::OwnedPiece;
 pub use laws::{items_have_text, items_stay_queued, pieces_are_those_of_the_cut};
 pub use limits::{LOGON_WAIT, MOST_READ, MOST_WAITING, MOST_WRITTEN};
 pub use outbox::Outbox;

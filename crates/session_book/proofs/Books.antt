@@ -7,7 +7,7 @@ use Rattle.lease_core.specs.State.{state_of, state_after, with_last, one_more}
 use Rattle.message_log.specs.Series.{with_entry}
 use Rattle.message_log.specs.declared.entry.OutEntry.{OutEntry}
 use Rattle.resend_plan.specs.Fit.{HasFitBodies}
-use Rattle.resend_plan.specs.declared.item.TheConstants.{LONGEST_NAME}
+use Rattle.fix_fields.specs.declared.limits.TheConstants.{LONGEST_NAME}
 use Rattle.session_core.specs.State.{State}
 use Rattle.resend_plan.specs.declared.item.WireItem.{WireItem}
 use Rattle.session_book.specs.Book.{Book, after_sending}

@@ -1,15 +1,14 @@
 -- The acts of the session machine are what the journal tells.
-use Rattle.std.proofs.Common.{◌≡◌, ℕ, zero, suc, ◌≤◌, ◌+◌, ◌-◌, List, [], ◌∷◌, ◌++◌, length, Option, None, Some, IsSome, is_some, get_or, refl, sym, ap, subst, ◌∙◌, append_assoc, arith}
-use Rattle.std.specs.Prelude.{◌==◌}
+use Rattle.std.proofs.Common.{◌≡◌, ℕ, zero, suc, ◌+◌, List, [], ◌∷◌, ◌++◌, length, Option, Some, IsSome, is_some, refl, sym, ap, subst, ◌∙◌, append_assoc}
 use Rattle.std.specs.List.{slice_get}
-use Rattle.std.proofs.lemmas.Bool.{cond-false, false≢true, ne_eqb}
+use Rattle.std.proofs.lemmas.Bool.{false≢true}
 use Rattle.std.proofs.lemmas.List.{append-nil, length_push}
 use Rattle.lease_core.specs.State.{State as Totals, sent_in_series, series_of, state_after, state_of}
 use Rattle.lease_core.specs.declared.entry.Entry.{Entry}
-use Rattle.lease_core.specs.declared.entry.Entry.TheVariants.{Arrive, Admin, Bind, Plan, Leave, Reset, Granted, Refused, Send, Release, Timeout, Hold, Lapse}
+use Rattle.lease_core.specs.declared.entry.Entry.TheVariants.{Arrive, Admin, Bind, Plan, Reset}
 use Rattle.lease_core.specs.declared.event.Event.TheVariants.{Binds}
 use Rattle.message_log.specs.Growth.{GoesOn}
-use Rattle.message_log.specs.Series.{entry_at, entry_in, series_at, with_entry}
+use Rattle.message_log.specs.Series.{entry_at, with_entry}
 use Rattle.message_log.specs.declared.entry.OutEntry.{OutEntry}
 use Rattle.session_core.specs.declared.acts.Act.{Act}
 use Rattle.session_core.specs.declared.acts.Act.TheVariants.{Accept, Resend, Reset as Restart, Send as SendAct}
@@ -20,9 +19,9 @@ use Rattle.session_core.specs.Admin.{admin_text}
 use Rattle.session_core.specs.State.{State}
 use Rattle.session_book.specs.Book.{Book, Desk, with_event, with_machine, with_outbox}
 use Rattle.session_book.specs.Kept.{IsBook}
-use Rattle.session_book.proofs.News.{series_is}
+use Rattle.session_book.proofs.News.{got_last, named}
 use Rattle.session_book.proofs.Telling.{Grounds, LogsAgree, agree_after, sent_is, series_are}
-use Rattle.session_book.specs.Told.{CarriesOut, IsLogged, TellActs, TellsAccept, TellsAct, TellsSend}
+use Rattle.session_book.specs.Told.{CarriesOut, IsLogged, TellActs, TellsAct}
 
 abbrev pub EntriesStay : Type 0
 EntriesStay = (earlier later : List (List OutEntry)) (k n : ℕ) → GoesOn earlier later → IsSome (entry_at earlier k n) → entry_at later k n ≡ entry_at earlier k n
@@ -32,35 +31,6 @@ got_first : {T : Type 0} (xs ys : List T) (n : ℕ) (x : T) → slice_get xs n �
 got_first {T} [] ys n x is = absurd (false≢true (ap (λ (o : Option T). is_some o) is))
 got_first (y ∷ xs) ys zero x is = is
 got_first (y ∷ xs) ys (suc n) x is = got_first xs ys n x is
-
-got_last : {T : Type 0} (xs : List T) (x : T) → slice_get (xs ++ x ∷ []) (length xs) ≡ Some x
-got_last [] x = refl
-got_last (y ∷ xs) x = got_last xs x
-
-pushed_last : (entries : List OutEntry) (later : List (List OutEntry)) (e : OutEntry) → get_or (with_entry (entries ∷ later) e) (length later) [] ≡ get_or (entries ∷ later) (length later) [] ++ e ∷ []
-pushed_last entries [] e = refl
-pushed_last entries (next ∷ later) e = pushed_last next later e
-
--- the present series has the entry behind those that it had
-present : (log : List (List OutEntry)) (e : OutEntry) → 1 ≤ length log → series_at (with_entry log e) (length log) ≡ series_at log (length log) ++ e ∷ []
-present [] e h = absurd (omega arith)
-present (entries ∷ later) e h =
-    let log = entries ∷ later in
-    let one_less : length log - 1 ≡ length later = omega arith in
-    series_is (with_entry log e) (length log) (omega arith)
-    ∙ ap (λ k. get_or (with_entry log e) k []) one_less
-    ∙ pushed_last entries later e
-    ∙ ap (λ es. es ++ e ∷ []) (sym (series_is log (length log) (omega arith) ∙ ap (λ k. get_or log k []) one_less))
-
-entry_behind : (entries : List OutEntry) (e : OutEntry) → entry_in (entries ++ e ∷ []) (length entries + 1) ≡ Some e
-entry_behind entries e =
-    let one_less : length entries + 1 - 1 ≡ length entries = omega arith in
-    cond-false (length entries + 1 == 0) None (slice_get (entries ++ e ∷ []) (length entries + 1 - 1)) (ne_eqb (length entries + 1) 0 (λ z. omega arith))
-    ∙ ap (λ k. slice_get (entries ++ e ∷ []) k) one_less
-    ∙ got_last entries e
-
-named : (log : List (List OutEntry)) (e : OutEntry) → 1 ≤ length log → entry_at (with_entry log e) (length log) (length (series_at log (length log)) + 1) ≡ Some e
-named log e h = ap (λ entries. entry_in entries (length (series_at log (length log)) + 1)) (present log e h) ∙ entry_behind (series_at log (length log)) e
 
 -- an act that was carried out with one entry
 pub record OneCarried (act : Act) (old new : Desk) : Type 0 where
@@ -84,39 +54,9 @@ module _ (stay : EntriesStay) where
         session = is.session;
       }
 
-  send_on : (earlier later : List (List OutEntry)) (k : ℕ) (message : Message) (e : Entry) → GoesOn earlier later → TellsSend earlier k message e → TellsSend later k message e
-  send_on earlier later k message (Admin number) on is = logged_on earlier later k number message on is
-  send_on earlier later k message (Arrive pos) on is = absurd is
-  send_on earlier later k message (Bind c) on is = absurd is
-  send_on earlier later k message (Plan begin last at) on is = absurd is
-  send_on earlier later k message (Leave c) on is = absurd is
-  send_on earlier later k message (Reset series) on is = absurd is
-  send_on earlier later k message (Granted library nr lease from start) on is = absurd is
-  send_on earlier later k message (Refused library nr why) on is = absurd is
-  send_on earlier later k message (Send lease library ordinal number) on is = absurd is
-  send_on earlier later k message (Release lease library count heir) on is = absurd is
-  send_on earlier later k message (Timeout lease library count) on is = absurd is
-  send_on earlier later k message (Hold lease until) on is = absurd is
-  send_on earlier later k message (Lapse lease) on is = absurd is
-
-  accept_on : (inbound more : List (List ℕ)) (body : List ℕ) (e : Entry) → TellsAccept inbound body e → TellsAccept (inbound ++ more) body e
-  accept_on inbound more body (Arrive pos) is = got_first inbound more pos body is
-  accept_on inbound more body (Admin number) is = absurd is
-  accept_on inbound more body (Bind c) is = absurd is
-  accept_on inbound more body (Plan begin last at) is = absurd is
-  accept_on inbound more body (Leave c) is = absurd is
-  accept_on inbound more body (Reset series) is = absurd is
-  accept_on inbound more body (Granted library nr lease from start) is = absurd is
-  accept_on inbound more body (Refused library nr why) is = absurd is
-  accept_on inbound more body (Send lease library ordinal number) is = absurd is
-  accept_on inbound more body (Release lease library count heir) is = absurd is
-  accept_on inbound more body (Timeout lease library count) is = absurd is
-  accept_on inbound more body (Hold lease until) is = absurd is
-  accept_on inbound more body (Lapse lease) is = absurd is
-
-  tells_on : (inbound more : List (List ℕ)) (earlier later : List (List OutEntry)) (s : Totals) (act : Act) (e : Entry) → GoesOn earlier later → TellsAct inbound earlier s act e → TellsAct (inbound ++ more) later s act e
-  tells_on inbound more earlier later s (Accept body) e on is = accept_on inbound more body e is
-  tells_on inbound more earlier later s (SendAct message) e on is = send_on earlier later (series_of s) message e on is
+  pub tells_on : (inbound more : List (List ℕ)) (earlier later : List (List OutEntry)) (s : Totals) (act : Act) (e : Entry) → GoesOn earlier later → TellsAct inbound earlier s act e → TellsAct (inbound ++ more) later s act e
+  tells_on inbound more earlier later s (Accept body) e on is = (is.0, (is.1.0, got_first inbound more is.0 body is.1.1))
+  tells_on inbound more earlier later s (SendAct message) e on is = (is.0, (is.1.0, logged_on earlier later (series_of s) is.0 message on is.1.1))
   tells_on inbound more earlier later s (Resend begin last) e on is = is
   tells_on inbound more earlier later s Restart e on is = is
 
@@ -128,7 +68,7 @@ module _ (g : Grounds) where
     more = body ∷ [];
     inbound = refl;
     outbound = g.itself book.outbound;
-    told = ap (λ pos. slice_get (book.inbound ++ body ∷ []) pos) in_is ∙ got_last book.inbound body;
+    told = ((state_of book.entries).inbound, (refl, ap (λ pos. slice_get (book.inbound ++ body ∷ []) pos) in_is ∙ got_last book.inbound body));
   }
   one_carried at (SendAct message) book out is in_is =
       let s = state_of book.entries in
@@ -141,12 +81,18 @@ module _ (g : Grounds) where
         more = [];
         inbound = sym (append-nil book.inbound);
         outbound = g.entry log entry;
-        told = record {
-          entry = entry;
-          found = ap (λ k. entry_at newer k (sent_in_series s + 1)) (series_are book is) ∙ ap (λ n. entry_at newer (length log) (n + 1)) (sent_is book is) ∙ named log entry is.begun;
-          body = ap (λ n. admin_text message (n + 1)) (sym (sent_is book is));
-          session = refl;
-        };
+        told = (
+          sent_in_series s + 1,
+          (
+            refl,
+            record {
+              entry = entry;
+              found = ap (λ k. entry_at newer k (sent_in_series s + 1)) (series_are book is) ∙ ap (λ n. entry_at newer (length log) (n + 1)) (sent_is book is) ∙ named log entry is.begun;
+              body = ap (λ n. admin_text message (n + 1)) (sym (sent_is book is));
+              session = refl;
+            },
+          ),
+        );
       }
   one_carried at (Resend begin last) book out is in_is = record {
     e = Plan begin last at;
@@ -154,7 +100,7 @@ module _ (g : Grounds) where
     more = [];
     inbound = sym (append-nil book.inbound);
     outbound = g.itself book.outbound;
-    told = (refl, refl);
+    told = (at, refl);
   }
   one_carried at Restart book out is in_is = record {
     e = Reset (series_of (state_of book.entries) + 1);
@@ -162,7 +108,7 @@ module _ (g : Grounds) where
     more = [];
     inbound = sym (append-nil book.inbound);
     outbound = g.series book.outbound;
-    told = tt;
+    told = (series_of (state_of book.entries) + 1, refl);
   }
 
   inbound_after : (at : ℕ) (act : Act) (book : Book) (out : Outgoing) → InboundAgrees book → InboundAgrees (after_act at act (with_outbox book out)).book

@@ -3,3 +3,11 @@ pub mod Carrying
 pub mod News
 pub mod Telling
 pub mod Carried
+pub mod Spells
+pub mod Runs
+pub mod LeaseEntries
+pub mod RunEvents
+pub mod TextRuns
+pub mod TextEvents
+pub mod SendRuns
+pub mod SendEvents

@@ -1,7 +1,7 @@
 -- What a word adds to a journal and to the outbound log goes together.
-use Rattle.std.proofs.Common.{◌≡◌, ℕ, zero, suc, ◌+◌, ◌-◌, ◌≤◌, ◌<◌, Bool, true, false, if◌then◌else◌, List, [], ◌∷◌, length, get_or, refl, sym, ap, subst, ◌∙◌, arith, append_assoc}
+use Rattle.std.proofs.Common.{◌≡◌, ℕ, zero, suc, ◌+◌, ◌-◌, ◌≤◌, ◌<◌, Bool, true, false, if◌then◌else◌, List, [], ◌∷◌, ◌++◌, length, get_or, None, Some, refl, sym, ap, subst, ◌∙◌, arith, append_assoc}
 use Rattle.std.specs.Prelude.{◌==◌}
-use Rattle.std.specs.List.{All}
+use Rattle.std.specs.List.{All, slice_get}
 use Rattle.std.proofs.lemmas.Bool.{cond-false, ne_eqb}
 use Rattle.std.proofs.lemmas.List.{length-map}
 use Rattle.std.proofs.lemmas.List.Elements.{All-head, All-tail}
@@ -14,10 +14,10 @@ use Rattle.lease_core.specs.declared.entry.Entry.{Entry}
 use Rattle.lease_core.specs.declared.word.Standing.{Standing}
 use Rattle.lease_core.specs.declared.word.Standing.TheVariants.{Active, Released, Revoked}
 use Rattle.lease_core.specs.declared.word.Word.{Word}
-use Rattle.message_log.specs.Series.{series_at, with_entry}
+use Rattle.message_log.specs.Series.{entry_at, entry_in, series_at, with_entry}
 use Rattle.message_log.specs.declared.entry.OutEntry.{OutEntry}
 use Rattle.resend_plan.specs.Fit.{HasFitBodies, IsFit}
-use Rattle.resend_plan.specs.declared.item.TheConstants.{LONGEST_NAME}
+use Rattle.fix_fields.specs.declared.limits.TheConstants.{LONGEST_NAME}
 use Rattle.resend_plan.specs.declared.item.WireItem.{WireItem}
 use Rattle.resend_plan.specs.declared.item.WireItem.TheVariants.{New}
 use Rattle.session_core.specs.State.{State}
@@ -167,3 +167,33 @@ news_is_book book machine leases entries n at bodies outbound is phase_is names_
 -- the journal's count of the present series is the log's
 pub next_is : (book : Book) → IsBook book → sent_in_series (state_of book.entries) + 1 ≡ next_number book
 next_is book is = ap (λ n. n + 1) (ap (λ ns. last_or 0 ns) (sym is.outbound) ∙ last_length book.outbound is.begun)
+
+-- the entry that was pushed is the one of the next number
+pub got_last : {T : Type 0} (xs : List T) (x : T) → slice_get (xs ++ x ∷ []) (length xs) ≡ Some x
+got_last [] x = refl
+got_last (y ∷ xs) x = got_last xs x
+
+pushed_last : (entries : List OutEntry) (later : List (List OutEntry)) (e : OutEntry) → get_or (with_entry (entries ∷ later) e) (length later) [] ≡ get_or (entries ∷ later) (length later) [] ++ e ∷ []
+pushed_last entries [] e = refl
+pushed_last entries (next ∷ later) e = pushed_last next later e
+
+-- the present series has the entry behind those that it had
+present : (log : List (List OutEntry)) (e : OutEntry) → 1 ≤ length log → series_at (with_entry log e) (length log) ≡ series_at log (length log) ++ e ∷ []
+present [] e h = absurd (omega arith)
+present (entries ∷ later) e h =
+    let log = entries ∷ later in
+    let one_less : length log - 1 ≡ length later = omega arith in
+    series_is (with_entry log e) (length log) (omega arith)
+    ∙ ap (λ k. get_or (with_entry log e) k []) one_less
+    ∙ pushed_last entries later e
+    ∙ ap (λ es. es ++ e ∷ []) (sym (series_is log (length log) (omega arith) ∙ ap (λ k. get_or log k []) one_less))
+
+entry_behind : (entries : List OutEntry) (e : OutEntry) → entry_in (entries ++ e ∷ []) (length entries + 1) ≡ Some e
+entry_behind entries e =
+    let one_less : length entries + 1 - 1 ≡ length entries = omega arith in
+    cond-false (length entries + 1 == 0) None (slice_get (entries ++ e ∷ []) (length entries + 1 - 1)) (ne_eqb (length entries + 1) 0 (λ z. omega arith))
+    ∙ ap (λ k. slice_get (entries ++ e ∷ []) k) one_less
+    ∙ got_last entries e
+
+pub named : (log : List (List OutEntry)) (e : OutEntry) → 1 ≤ length log → entry_at (with_entry log e) (length log) (length (series_at log (length log)) + 1) ≡ Some e
+named log e h = ap (λ entries. entry_in entries (length (series_at log (length log)) + 1)) (present log e h) ∙ entry_behind (series_at log (length log)) e

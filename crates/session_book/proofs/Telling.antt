@@ -1,7 +1,9 @@
 -- What comes to wait is what the journal tells.
-use Rattle.std.proofs.Common.{◌≡◌, ℕ, zero, suc, ◌≤◌, ◌+◌, ◌-◌, map, Bool, if◌then◌else◌, true, false, List, [], ◌∷◌, ◌++◌, length, take, drop, fold, Option, Some, refl, sym, ap, subst, ◌∙◌, append_assoc, arith, length-take}
+use Rattle.std.proofs.Common.{◌≡◌, ℕ, zero, suc, ◌≤◌, ◌+◌, ◌-◌, map, Bool, if◌then◌else◌, true, false, List, [], ◌∷◌, ◌++◌, length, take, drop, fold, Option, Some, is_some, refl, sym, ap, subst, ◌∙◌, append_assoc, arith, length-take}
 use Rattle.std.specs.Prelude.{◌==◌, ◌&&◌, nat_le, nat_lt}
+use Rattle.std.specs.List.{All}
 use Rattle.std.proofs.lemmas.Bool.{cond-true, eq-eqb}
+use Rattle.std.proofs.lemmas.List.Elements.{All-append, All-cons, All-nil}
 use Rattle.std.proofs.lemmas.List.{append-nil, length-map, take-append-drop, take-append-le, take_all, length_push, map-append}
 use Rattle.connection_core.specs.Outgoing.{Outgoing, with_items}
 use Rattle.lease_core.specs.Laws.{EntriesDecide, EntriesDecideOver}
@@ -12,6 +14,7 @@ use Rattle.message_log.specs.Growth.{GoesOn}
 use Rattle.message_log.specs.Series.{series_at, with_entry}
 use Rattle.message_log.specs.declared.entry.OutEntry.{OutEntry}
 use Rattle.resend_plan.specs.Plan.{plan_of}
+use Rattle.resend_plan.specs.Wire.{NamesEntry}
 use Rattle.resend_plan.specs.declared.item.WireItem.{WireItem}
 use Rattle.resend_plan.specs.declared.item.WireItem.TheVariants.{New}
 use Rattle.session_core.specs.Receive.{receive, after_receive}
@@ -22,7 +25,7 @@ use Rattle.lease_core.specs.declared.event.Event.TheVariants.{Binds}
 use Rattle.session_core.specs.declared.acts.Act.{Act}
 use Rattle.session_core.specs.declared.acts.Act.TheVariants.{Accept, Send as SendAct, Resend, Reset as ResetAct}
 use Rattle.session_book.specs.Acts.{admin_entry, after_accept, after_act, after_acts, after_message, after_binding, after_dial, after_end, after_lapse, after_request, after_resend, after_reset, after_send, after_ticking, next_item, plan_items}
-use Rattle.session_book.specs.Book.{Book, Desk, with_event, with_machine, with_outbox}
+use Rattle.session_book.specs.Book.{Book, Desk, next_number, with_event, with_machine, with_outbox}
 use Rattle.session_book.specs.Kept.{IsBook}
 use Rattle.session_book.specs.Items.{HasWhatWasSent, QueuesWhatIsTold, is_connection, items_for, items_from, items_of_entry}
 use Rattle.session_book.proofs.Books.{lengths, lengths_pushed, series_pushed}
@@ -35,13 +38,19 @@ use Rattle.lease_core.specs.Lines.{entries_after_hold, entries_after_send, entri
 use Rattle.lease_core.specs.declared.word.Standing.{Standing}
 use Rattle.lease_core.specs.declared.word.Standing.TheVariants.{Active, Released, Revoked}
 use Rattle.lease_core.specs.declared.word.Word.{Word}
-use Rattle.session_book.proofs.News.{begun_sent, last_changed, last_length, length_changed, lengths_sent, pushes, series_held, series_sent, series_stood}
+use Rattle.session_book.proofs.News.{begun_sent, last_changed, last_length, length_changed, lengths_sent, named, pushes, series_held, series_sent, series_stood}
 use Rattle.lease_core.specs.declared.lease.Lease.{Lease}
 use Rattle.lease_core.specs.declared.lease.Line.{Line}
 
 -- a series of the later log begins with that of the earlier one
 abbrev pub SeriesBegin : Type 0
 SeriesBegin = (earlier later : List (List OutEntry)) (k : ℕ) → GoesOn earlier later → take (length (series_at earlier k)) (series_at later k) ≡ series_at earlier k
+
+abbrev pub NamesStay : Type 0
+NamesStay = (earlier later : List (List OutEntry)) (items : List WireItem) → GoesOn earlier later → All (NamesEntry earlier) items → All (NamesEntry later) items
+
+abbrev pub PlansNameEntries : Type 0
+PlansNameEntries = (log : List (List OutEntry)) (series begin last at : ℕ) → All (NamesEntry log) (plan_of (series_at log series) series begin last at)
 
 abbrev pub LogsGoOn : Type 0
 LogsGoOn = (first second third : List (List OutEntry)) → GoesOn first second → GoesOn second third → GoesOn first third
@@ -55,7 +64,7 @@ module _ (begins : SeriesBegin) where
       let whole = sym (take-append-drop (length (series_at earlier k)) (series_at later k)) ∙ ap (λ first. first ++ drop (length (series_at earlier k)) (series_at later k)) (begins earlier later k on) in
       ap (λ entries. take n entries) whole ∙ take-append-le n (series_at earlier k) (drop (length (series_at earlier k)) (series_at later k)) h
 
-  same_entry : (earlier later : List (List OutEntry)) (s : Totals) (e : Entry) → GoesOn earlier later → sent_in_series s ≤ length (series_at earlier (series_of s)) → items_of_entry later s e ≡ items_of_entry earlier s e
+  pub same_entry : (earlier later : List (List OutEntry)) (s : Totals) (e : Entry) → GoesOn earlier later → sent_in_series s ≤ length (series_at earlier (series_of s)) → items_of_entry later s e ≡ items_of_entry earlier s e
   same_entry earlier later s (Arrive pos) on h = refl
   same_entry earlier later s (Admin number) on h = refl
   same_entry earlier later s (Bind c) on h = refl
@@ -98,8 +107,8 @@ with_nothing : (out : Outgoing) → with_items [] out ≡ out
 with_nothing out = ap (λ (unmade : List WireItem). record out { unmade = unmade }) (append-nil out.unmade)
 
 -- one event behind another
-pub queues_then : SeriesBegin → LogsGoOn → EntriesDecideOver → (c : ℕ) (a b d : Desk) → QueuesWhatIsTold c a b → QueuesWhatIsTold c b d → QueuesWhatIsTold c a d
-queues_then begins logs decide c a b d first second =
+pub queues_then : SeriesBegin → LogsGoOn → EntriesDecideOver → NamesStay → (c : ℕ) (a b d : Desk) → QueuesWhatIsTold c a b → QueuesWhatIsTold c b d → QueuesWhatIsTold c a d
+queues_then begins logs decide stay c a b d first second =
     let x = first.added in
     let y = second.added in
     let s = state_of a.book.entries in
@@ -114,6 +123,9 @@ queues_then begins logs decide c a b d first second =
       entries_are = second.entries_are ∙ ap (λ es. es ++ y) first.entries_are ∙ append_assoc a.book.entries x y;
       goes_on = logs a.book.outbound b.book.outbound log first.goes_on second.goes_on;
       sent = has_both log s x y (has_more begins b.book.outbound log s x second.goes_on first.sent) (subst (λ t. HasWhatWasSent log t y) mid second.sent);
+      named = subst (All (NamesEntry log)) (sym told)
+          (All-append (NamesEntry log) (items_from c b.book.outbound s x) (items_from c log (state_of b.book.entries) y)
+          (stay b.book.outbound log (items_from c b.book.outbound s x) second.goes_on first.named) second.named);
       queued = second.queued
           ∙ ap (λ out. with_items (items_from c log (state_of b.book.entries) y) out) first.queued
           ∙ with_both (items_from c b.book.outbound s x) (items_from c log (state_of b.book.entries) y) a.outgoing
@@ -146,9 +158,9 @@ nothing_either false items none = refl
 -- an act that makes one entry queues what that tells
 one_entry : SeriesBegin → (c : ℕ) (book new : Book) (e : Entry) (items : List WireItem) (out outgoing : Outgoing)
     → LogsAgree book → (state_of book.entries).bound ≡ Some c → GoesOn book.outbound new.outbound
-    → new.entries ≡ book.entries ++ e ∷ [] → items_of_entry new.outbound (state_of book.entries) e ≡ items → outgoing ≡ with_items items out
+    → new.entries ≡ book.entries ++ e ∷ [] → items_of_entry new.outbound (state_of book.entries) e ≡ items → All (NamesEntry new.outbound) items → outgoing ≡ with_items items out
     → QueuesWhatIsTold c (with_outbox book out) (with_outbox new outgoing)
-one_entry begins c book new e items out outgoing is bound on entries_are told outgoing_is =
+one_entry begins c book new e items out outgoing is bound on entries_are told named outgoing_is =
     let s = state_of book.entries in
     let same : length (series_at book.outbound (series_of s)) ≡ length (series_at book.outbound (length book.outbound)) = ap (λ k. length (series_at book.outbound k)) (series_are book is) in
     let sent = sent_is book is in
@@ -158,6 +170,7 @@ one_entry begins c book new e items out outgoing is bound on entries_are told ou
       entries_are = entries_are;
       goes_on = on;
       sent = (omega arith, tt);
+      named = subst (All (NamesEntry new.outbound)) (sym (told_one c new.outbound s e items bound told)) named;
       queued = outgoing_is ∙ ap (λ found. with_items found out) (sym (told_one c new.outbound s e items bound told));
     }
 
@@ -170,14 +183,27 @@ pub record Grounds : Type 0 where
   pub further : LogsGoOn
   pub decide : EntriesDecide
   pub decide_over : EntriesDecideOver
+  pub names : NamesStay
+  pub plans : PlansNameEntries
+
+none_named : (log : List (List OutEntry)) → All (NamesEntry log) []
+none_named log = All-nil (NamesEntry log)
+
+one_named : (log : List (List OutEntry)) (item : WireItem) → NamesEntry log item → All (NamesEntry log) (item ∷ [])
+one_named log item is = All-cons (NamesEntry log) item [] is (none_named log)
+
+-- the entry that was pushed is named by the number behind those before it
+pushed_named : (log : List (List OutEntry)) (entry : OutEntry) → 1 ≤ length log → NamesEntry (with_entry log entry) (New (length log) (length (series_at log (length log)) + 1))
+pushed_named log entry h = ap (λ (o : Option OutEntry). is_some o) (named log entry h)
 
 module _ (g : Grounds) where
   act_tells : (c at : ℕ) (act : Act) (book : Book) (out : Outgoing) → LogsAgree book → (state_of book.entries).bound ≡ Some c → QueuesWhatIsTold c (with_outbox book out) (after_act at act (with_outbox book out))
-  act_tells c at (Accept body) book out is bound = one_entry g.begins c book (after_accept body book) _ [] out out is bound (g.itself book.outbound) refl refl (sym (with_nothing out))
+  act_tells c at (Accept body) book out is bound = one_entry g.begins c book (after_accept body book) _ [] out out is bound (g.itself book.outbound) refl refl (none_named book.outbound) (sym (with_nothing out))
   act_tells c at (SendAct admin) book out is bound =
       let s = state_of book.entries in
       let told = ap (λ k. New k (sent_in_series s + 1) ∷ []) (series_are book is) ∙ ap (λ n. New (length book.outbound) (n + 1) ∷ []) (sent_is book is) in
-      one_entry g.begins c book (after_send at admin book) _ (next_item book) out _ is bound (g.entry book.outbound (admin_entry at admin book)) refl told refl
+      one_entry g.begins c book (after_send at admin book) _ (next_item book) out _ is bound (g.entry book.outbound (admin_entry at admin book)) refl told
+      (one_named (with_entry book.outbound (admin_entry at admin book)) (New (length book.outbound) (next_number book)) (pushed_named book.outbound (admin_entry at admin book) is.begun)) refl
   act_tells c at (Resend begin last) book out is bound =
       let s = state_of book.entries in
       let log = book.outbound in
@@ -185,8 +211,8 @@ module _ (g : Grounds) where
       let told =
       ap (λ k. plan_of (take (sent_in_series s) (series_at log k)) k begin last at) (series_are book is)
       ∙ ap (λ entries. plan_of entries (length log) begin last at) (take_all (sent_in_series s) (series_at log (length log)) (omega arith)) in
-      one_entry g.begins c book (after_resend at begin last book) _ (plan_items at begin last book) out _ is bound (g.itself log) refl told refl
-  act_tells c at ResetAct book out is bound = one_entry g.begins c book (after_reset book) _ [] out out is bound (g.series book.outbound) refl refl (sym (with_nothing out))
+      one_entry g.begins c book (after_resend at begin last book) _ (plan_items at begin last book) out _ is bound (g.itself log) refl told (g.plans log (length log) begin last at) refl
+  act_tells c at ResetAct book out is bound = one_entry g.begins c book (after_reset book) _ [] out out is bound (g.series book.outbound) refl refl (none_named (book.outbound ++ [] ∷ [])) (sym (with_nothing out))
 
   pub agree_after : (at : ℕ) (act : Act) (book : Book) (out : Outgoing) → LogsAgree book → LogsAgree (after_act at act (with_outbox book out)).book
   agree_after at (Accept body) book out is = record { outbound = is.outbound ∙ sym (ap (λ s. s.series) (g.decide book.entries _)); begun = is.begun }
@@ -213,10 +239,11 @@ module _ (g : Grounds) where
     entries_are = sym (append-nil desk.book.entries);
     goes_on = g.itself desk.book.outbound;
     sent = tt;
+    named = none_named desk.book.outbound;
     queued = sym (with_nothing desk.outgoing);
   }
   acts_tell c at (act ∷ acts) desk is bound =
-      queues_then g.begins g.further g.decide_over c desk (after_act at act desk) (after_acts at acts (after_act at act desk))
+      queues_then g.begins g.further g.decide_over g.names c desk (after_act at act desk) (after_acts at acts (after_act at act desk))
       (act_tells c at act desk.book desk.outgoing is bound)
       (acts_tell c at acts (after_act at act desk) (agree_after at act desk.book desk.outgoing is) (bound_after c at act desk.book desk.outgoing bound))
 
@@ -224,13 +251,13 @@ module _ (g : Grounds) where
   message_tells c at body desk is bound =
       let machine = desk.book.machine in
       let told = acts_tell c at (receive machine body at).acts (with_outbox (with_machine (after_receive machine body at) desk.book) desk.outgoing) (record { outbound = is.outbound; begun = is.begun }) bound in
-      record { added = told.added; entries_are = told.entries_are; goes_on = told.goes_on; sent = told.sent; queued = told.queued }
+      record { added = told.added; entries_are = told.entries_are; goes_on = told.goes_on; sent = told.sent; named = told.named; queued = told.queued }
 
   pub tick_tells : (c at : ℕ) (desk : Desk) → IsBook desk.book → (state_of desk.book.entries).bound ≡ Some c → QueuesWhatIsTold c desk (after_ticking at desk)
   tick_tells c at desk is bound =
       let machine = desk.book.machine in
       let told = acts_tell c at (tick machine at).acts (with_outbox (with_machine (after_tick machine at) desk.book) desk.outgoing) (record { outbound = is.outbound; begun = is.begun }) bound in
-      record { added = told.added; entries_are = told.entries_are; goes_on = told.goes_on; sent = told.sent; queued = told.queued }
+      record { added = told.added; entries_are = told.entries_are; goes_on = told.goes_on; sent = told.sent; named = told.named; queued = told.queued }
 
   -- an entry that has no items queues nothing, whoever is bound
   no_items : (c : ℕ) (book new : Book) (e : Entry) (out : Outgoing)
@@ -242,12 +269,14 @@ module _ (g : Grounds) where
       let same : length (series_at book.outbound (series_of s)) ≡ length (series_at book.outbound (length book.outbound)) = ap (λ k. length (series_at book.outbound k)) (series_are book is) in
       let kept : length (series_at new.outbound (series_of s)) ≡ length (series_at book.outbound (series_of s)) = ap (λ log. length (series_at log (series_of s))) log_is in
       let sent = sent_is book is in
+      let nothing : items_from c new.outbound s (e ∷ []) ≡ [] = append-nil (items_for c new.outbound s e) ∙ nothing_either (is_connection s.bound c) _ none in
       record {
         added = e ∷ [];
         entries_are = entries_are;
         goes_on = subst (λ log. GoesOn book.outbound log) (sym log_is) (g.itself book.outbound);
         sent = (omega arith, tt);
-        queued = sym (ap (λ items. with_items items out) (append-nil (items_for c new.outbound s e) ∙ nothing_either (is_connection s.bound c) _ none) ∙ with_nothing out);
+        named = subst (All (NamesEntry new.outbound)) (sym nothing) (none_named new.outbound);
+        queued = sym (ap (λ items. with_items items out) nothing ∙ with_nothing out);
       }
 
   -- the session is bound, and then acts are carried out
@@ -258,7 +287,7 @@ module _ (g : Grounds) where
       let agree : LogsAgree book = record { outbound = is.outbound; begun = is.begun } in
       let next = with_machine machine (with_event (Binds c) book) in
       let after = g.decide book.entries (Bind c) in
-      queues_then g.begins g.further g.decide_over c desk (with_outbox next desk.outgoing) (after_acts at acts (with_outbox next desk.outgoing))
+      queues_then g.begins g.further g.decide_over g.names c desk (with_outbox next desk.outgoing) (after_acts at acts (with_outbox next desk.outgoing))
       (no_items c book next (Bind c) desk.outgoing agree refl refl refl)
       (acts_tell c at acts (with_outbox next desk.outgoing) (record { outbound = is.outbound ∙ sym (ap (λ s. s.series) after); begun = is.begun }) (ap (λ s. s.bound) after))
 
@@ -271,11 +300,11 @@ module _ (g : Grounds) where
   abbrev with_sends_recorded : ℕ → List (List ℕ) → Book → Book
   with_sends_recorded at bodies book = record book { entries = entries_after_sends (length bodies) book.entries; outbound = with_sends at bodies book.outbound }
 
-  sends_from_first : (n : ℕ) (entries : List Entry) → entries_after_sends n (entries_after_send entries) ≡ entries_after_send (entries_after_sends n entries)
+  pub sends_from_first : (n : ℕ) (entries : List Entry) → entries_after_sends n (entries_after_send entries) ≡ entries_after_send (entries_after_sends n entries)
   sends_from_first zero entries = refl
   sends_from_first (suc n) entries = ap entries_after_send (sends_from_first n entries)
 
-  agree_sent : (at : ℕ) (body : List ℕ) (book : Book) → LogsAgree book → LogsAgree (record book { entries = entries_after_send book.entries; outbound = with_entry book.outbound (sent_entry at body) })
+  pub agree_sent : (at : ℕ) (body : List ℕ) (book : Book) → LogsAgree book → LogsAgree (record book { entries = entries_after_send book.entries; outbound = with_entry book.outbound (sent_entry at body) })
   agree_sent at body book is = record {
     outbound = lengths_pushed book.outbound (sent_entry at body) is.begun ∙ ap (λ ns. with_last one_more ns) is.outbound ∙ sym (ap (λ s. s.series) (g.decide book.entries _));
     begun = series_pushed book.outbound (sent_entry at body);
@@ -304,6 +333,7 @@ module _ (g : Grounds) where
     entries_are = sym (append-nil book.entries);
     goes_on = g.itself book.outbound;
     sent = tt;
+    named = none_named book.outbound;
     queued = refl;
   }
   sends_tell c at (body ∷ bodies) book out is bound =
@@ -314,9 +344,9 @@ module _ (g : Grounds) where
       let next : Book = record book { entries = entries_after_send book.entries; outbound = with_entry log (sent_entry at body) } in
       let waits = with_items (item ∷ []) out in
       let told = ap (λ k. New k (sent_in_series s + 1) ∷ []) (series_are book is) ∙ ap (λ n. New (length log) (n + 1) ∷ []) (sent_is book is) in
-      let first = one_entry g.begins c book next (send_entry s) (item ∷ []) out waits is bound (g.entry log (sent_entry at body)) refl told refl in
+      let first = one_entry g.begins c book next (send_entry s) (item ∷ []) out waits is bound (g.entry log (sent_entry at body)) refl told (one_named (with_entry log (sent_entry at body)) item (pushed_named log (sent_entry at body) is.begun)) refl in
       let rest = sends_tell c at bodies next waits (agree_sent at body book is) (ap (λ t. t.bound) (g.decide book.entries _) ∙ bound) in
-      let both = queues_then g.begins g.further g.decide_over c (with_outbox book out) (with_outbox next waits) _ first rest in
+      let both = queues_then g.begins g.further g.decide_over g.names c (with_outbox book out) (with_outbox next waits) _ first rest in
       let items : new_items (length next.outbound) (length (series_at next.outbound (length next.outbound)) + 1) (length bodies) ≡ new_items (length log) (number + 1) (length bodies) =
       ap (λ k. new_items k (length (series_at next.outbound (length next.outbound)) + 1) (length bodies)) (length_behind at body book is)
       ∙ ap (λ n. new_items (length log) n (length bodies)) (number_behind at body book is) in
@@ -332,6 +362,7 @@ module _ (g : Grounds) where
     entries_are = sym (append-nil desk.book.entries);
     goes_on = g.itself desk.book.outbound;
     sent = tt;
+    named = none_named desk.book.outbound;
     queued = sym (with_nothing desk.outgoing);
   }
 
@@ -360,16 +391,16 @@ module _ (g : Grounds) where
   timed c Released book out is = same_desk c (with_outbox book out)
   timed c Revoked book out is = same_desk c (with_outbox book out)
 
-  agree_with : (book : Book) (entries : List Entry) → LogsAgree book → (state_of entries).series ≡ (state_of book.entries).series → LogsAgree (with_entries entries book)
+  pub agree_with : (book : Book) (entries : List Entry) → LogsAgree book → (state_of entries).series ≡ (state_of book.entries).series → LogsAgree (with_entries entries book)
   agree_with book entries is same = record { outbound = is.outbound ∙ sym same; begun = is.begun }
 
-  agree_sends : (at : ℕ) (bodies : List (List ℕ)) (book : Book) → LogsAgree book → LogsAgree (with_sends_recorded at bodies book)
+  pub agree_sends : (at : ℕ) (bodies : List (List ℕ)) (book : Book) → LogsAgree book → LogsAgree (with_sends_recorded at bodies book)
   agree_sends at bodies book is = record {
     outbound = lengths_sent at bodies book.outbound is.begun ∙ ap (λ ns. pushes (length bodies) ns) is.outbound ∙ sym (series_sent g.decide (length bodies) book.entries);
     begun = begun_sent at bodies book.outbound is.begun;
   }
 
-  agree_if : (at : ℕ) (b : Bool) (w : Word) (bodies : List (List ℕ)) (book : Book) → LogsAgree book → length bodies ≡ (if b then news_count book.entries w else 0)
+  pub agree_if : (at : ℕ) (b : Bool) (w : Word) (bodies : List (List ℕ)) (book : Book) → LogsAgree book → length bodies ≡ (if b then news_count book.entries w else 0)
       → LogsAgree (record book { entries = if b then entries_after_standing w.standing w.owner (entries_after_sends (news_count book.entries w) book.entries) else book.entries; outbound = with_sends at bodies book.outbound })
   agree_if at true w bodies book is count =
       let recorded = with_sends_recorded at bodies book in
@@ -388,7 +419,7 @@ module _ (g : Grounds) where
       let recorded = with_sends_recorded at bodies book in
       let waits = with_items (new_items (length book.outbound) (length (series_at book.outbound (length book.outbound)) + 1) (length bodies)) out in
       subst (λ n. QueuesWhatIsTold c (with_outbox book out) (with_outbox (record book { entries = entries_after_standing w.standing w.owner (entries_after_sends n book.entries); outbound = with_sends at bodies book.outbound }) waits)) count
-      (queues_then g.begins g.further g.decide_over c (with_outbox book out) (with_outbox recorded waits) _
+      (queues_then g.begins g.further g.decide_over g.names c (with_outbox book out) (with_outbox recorded waits) _
       (sends_tell c at bodies book out is bound)
       (stood c w.standing w.owner recorded waits (agree_sends at bodies book is)))
   word_if c at false w [] book out is bound count = sends_tell c at [] book out is bound
@@ -399,7 +430,7 @@ module _ (g : Grounds) where
   last_is d [] = refl
   last_is d (l ∷ ls) = last_is l ls
 
-  news_is : (entries : List Entry) (w : Word) → (if is_news entries w then news_count entries w else 0) ≡ shown_sends entries w
+  pub news_is : (entries : List Entry) (w : Word) → (if is_news entries w then news_count entries w else 0) ≡ shown_sends entries w
   news_is entries w =
       let leases = (state_of entries).leases in
       let last : last_line (lines_of entries) ≡ line_of (last_lease leases) = last_is no_lease leases in
@@ -419,7 +450,7 @@ module _ (g : Grounds) where
       let b = is_news book.entries w in
       let many = count ∙ sym (news_is book.entries w) in
       let waits = with_items (new_items (length book.outbound) (length (series_at book.outbound (length book.outbound)) + 1) (length bodies)) out in
-      queues_then g.begins g.further g.decide_over c (with_outbox book out) _ _
+      queues_then g.begins g.further g.decide_over g.names c (with_outbox book out) _ _
       (word_if c at b w bodies book out is bound many)
       (held c until (record book { entries = if b then entries_after_standing w.standing w.owner (entries_after_sends (news_count book.entries w) book.entries) else book.entries; outbound = with_sends at bodies book.outbound }) waits (agree_if at b w bodies book is many))
 
@@ -430,7 +461,7 @@ module _ (g : Grounds) where
       let told = news_tells c at until w bodies book desk.outgoing (record { outbound = is.outbound; begun = is.begun }) bound count in
       let items = new_items (length book.outbound) (length (series_at book.outbound (length book.outbound)) + 1) (length bodies) in
       let same = ap (λ (found : Option ℕ). with_items (where_bound found items) desk.outgoing) bound in
-      record { added = told.added; entries_are = told.entries_are; goes_on = told.goes_on; sent = told.sent; queued = same ∙ told.queued }
+      record { added = told.added; entries_are = told.entries_are; goes_on = told.goes_on; sent = told.sent; named = told.named; queued = same ∙ told.queued }
 
   timeout_tells_on : (c at until : ℕ) (old : Word) (bodies : List (List ℕ)) (book : Book) (out : Outgoing) → LogsAgree book → (state_of book.entries).bound ≡ Some c
       → length bodies ≡ shown_sends book.entries old
@@ -444,7 +475,7 @@ module _ (g : Grounds) where
       let waits = with_items (new_items (length book.outbound) (length (series_at book.outbound (length book.outbound)) + 1) (length bodies)) out in
       let shown = if b then entries_after_standing old.standing old.owner (entries_after_sends (news_count book.entries old) book.entries) else book.entries in
       let told : Book = record book { entries = shown; outbound = with_sends at bodies book.outbound } in
-      queues_then g.begins g.further g.decide_over c (with_outbox book out) _ _
+      queues_then g.begins g.further g.decide_over g.names c (with_outbox book out) _ _
       (news_tells c at until old bodies book out is bound count)
       (timed c old.standing (with_entries (entries_after_hold until shown) told) waits (agree_with told _ (agree_if at b old bodies book is many) (series_held g.decide until shown)))
 
@@ -455,7 +486,7 @@ module _ (g : Grounds) where
       let told = timeout_tells_on c at until old bodies book desk.outgoing (record { outbound = is.outbound; begun = is.begun }) bound count in
       let items = new_items (length book.outbound) (length (series_at book.outbound (length book.outbound)) + 1) (length bodies) in
       let same = ap (λ (found : Option ℕ). with_items (where_bound found items) desk.outgoing) bound in
-      record { added = told.added; entries_are = told.entries_are; goes_on = told.goes_on; sent = told.sent; queued = same ∙ told.queued }
+      record { added = told.added; entries_are = told.entries_are; goes_on = told.goes_on; sent = told.sent; named = told.named; queued = same ∙ told.queued }
 
   reply_without : (log : List (List OutEntry)) (s : Totals) (library nr from : ℕ) (reply : Reply) → items_of_entry log s (entry_with library nr from reply) ≡ []
   reply_without log s library nr from (ToGranted lease start) = refl

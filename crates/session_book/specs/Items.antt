@@ -1,5 +1,6 @@
 -- What a journal tells of what is to be written on a connection.
 use Rattle.std.specs.Prelude.{◌≡◌, ℕ, ◌≤◌, ◌==◌, Bool, false, if◌then◌else◌, List, [], ◌∷◌, ◌++◌, length, take, Option, None, Some}
+use Rattle.std.specs.List.{All}
 use Rattle.connection_core.specs.Outgoing.{with_items}
 use Rattle.lease_core.specs.State.{State as Totals, sent_in_series, series_of, state_after, state_of}
 use Rattle.lease_core.specs.declared.entry.Entry.{Entry}
@@ -8,6 +9,7 @@ use Rattle.message_log.specs.Growth.{GoesOn}
 use Rattle.message_log.specs.Series.{series_at}
 use Rattle.message_log.specs.declared.entry.OutEntry.{OutEntry}
 use Rattle.resend_plan.specs.Plan.{plan_of}
+use Rattle.resend_plan.specs.Wire.{NamesEntry}
 use Rattle.resend_plan.specs.declared.item.WireItem.{WireItem}
 use Rattle.resend_plan.specs.declared.item.WireItem.TheVariants.{New}
 use Rattle.session_book.specs.Book.{Desk}
@@ -41,10 +43,12 @@ abbrev pub HasWhatWasSent : List (List OutEntry) → Totals → List Entry → T
 HasWhatWasSent log s [] = Unit {0}
 HasWhatWasSent log s (e ∷ es) = (sent_in_series s ≤ length (series_at log (series_of s))) × HasWhatWasSent log (state_after s e) es
 
--- What came to wait on connection c is what the entries tell that came to the journal, in order.
+-- What came to wait on connection c is what the entries tell that came to the journal, in order. Each item names an entry of the log, so that it can be
+-- written.
 pub record QueuesWhatIsTold (c : ℕ) (old new : Desk) : Type 0 where
   pub added : List Entry
   pub entries_are : new.book.entries ≡ old.book.entries ++ added
   pub goes_on : GoesOn old.book.outbound new.book.outbound
   pub sent : HasWhatWasSent new.book.outbound (state_of old.book.entries) added
+  pub named : All (NamesEntry new.book.outbound) (items_behind_entries c new.book.outbound old.book.entries added)
   pub queued : new.outgoing ≡ with_items (items_behind_entries c new.book.outbound old.book.entries added) old.outgoing

@@ -2,7 +2,7 @@
 use Rattle.std.specs.Prelude.{◌≡◌, ℕ, ◌≤◌, length, map, None}
 use Rattle.lease_core.specs.State.{state_of}
 use Rattle.resend_plan.specs.Fit.{HasFitBodies}
-use Rattle.resend_plan.specs.declared.item.TheConstants.{LONGEST_NAME}
+use Rattle.fix_fields.specs.declared.limits.TheConstants.{LONGEST_NAME}
 use Rattle.session_core.specs.declared.phases.Phase.TheVariants.{Off}
 use Rattle.session_core.specs.declared.names.Names.{Names}
 use Rattle.resend_plan.specs.declared.item.Names2.{Names2}

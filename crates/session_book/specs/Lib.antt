@@ -4,3 +4,7 @@ pub mod Words
 pub mod Kept
 pub mod Items
 pub mod Told
+pub mod Spells
+pub mod Runs
+pub mod Texts
+pub mod Sends

@@ -19,29 +19,13 @@ pub record IsLogged (log : List (List OutEntry)) (series number : ℕ) (message 
   pub body : entry.body ≡ admin_text message number
   pub session : entry.admin ≡ is_session_entry message
 
-abbrev pub TellsAccept : List (List ℕ) → List ℕ → Entry → Type 0
-TellsAccept inbound body (Arrive pos) = slice_get inbound pos ≡ Some body
-TellsAccept inbound body _ = ⊥
-
-abbrev pub TellsSend : List (List OutEntry) → ℕ → Message → Entry → Type 0
-TellsSend log series message (Admin number) = IsLogged log series number message
-TellsSend log series message _ = ⊥
-
-abbrev pub TellsResend : ℕ → ℕ → Entry → Type 0
-TellsResend begin last (Plan from to at) = (from ≡ begin) × (to ≡ last)
-TellsResend begin last _ = ⊥
-
-abbrev pub TellsReset : Entry → Type 0
-TellsReset (Reset series) = Unit {0}
-TellsReset _ = ⊥
-
 -- The entry tells of the act: an Arrive of the accepted body, an Admin of the message that was sent, a Plan of the numbers that were asked for, a
 -- Reset of that.
 abbrev pub TellsAct : List (List ℕ) → List (List OutEntry) → Totals → Act → Entry → Type 0
-TellsAct inbound log s (Accept body) e = TellsAccept inbound body e
-TellsAct inbound log s (Send message) e = TellsSend log (series_of s) message e
-TellsAct inbound log s (Resend begin last) e = TellsResend begin last e
-TellsAct inbound log s Restart e = TellsReset e
+TellsAct inbound log s (Accept body) e = (pos : ℕ) × ((e ≡ Arrive pos) × (slice_get inbound pos ≡ Some body))
+TellsAct inbound log s (Send message) e = (number : ℕ) × ((e ≡ Admin number) × IsLogged log (series_of s) number message)
+TellsAct inbound log s (Resend begin last) e = (at : ℕ) × (e ≡ Plan begin last at)
+TellsAct inbound log s Restart e = (series : ℕ) × (e ≡ Reset series)
 
 -- one entry for each act, in order
 abbrev pub TellActs : List (List ℕ) → List (List OutEntry) → Totals → List Act → List Entry → Type 0

@@ -4,10 +4,11 @@ ghost use Rattle.lease_core.specs.State.{state_of};
 ghost use Rattle.session_core.specs.State.{new_state, IsDialHeart};
 ghost use Rattle.session_book.specs.Kept.{IsBook};
 
+use fix_fields::LONGEST_NAME;
 use gate_io::{Bytes, NoMemory};
 use lease_core::Registry;
 use message_log::{InLog, OutLog};
-use resend_plan::{LONGEST_NAME, Names2, logs_stay_fit};
+use resend_plan::{Names2, logs_stay_fit};
 use session_core::Session;
 use std::alloc::Global;
 use std::marker::Model;

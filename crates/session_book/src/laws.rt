@@ -1,12 +1,23 @@
 //! Laws of the definitions. Each is the contract of a function that does nothing.
 
-ghost use Rattle.std.specs.Prelude.{◌≡◌, ℕ, List, Some, length};
+ghost use Rattle.std.specs.Prelude.{◌≡◌, ◌≢◌, ℕ, List, [], ◌∷◌, ◌++◌, None, Some, length, take, All};
+ghost use Rattle.connection_core.specs.Items.{AreItemsOf};
+ghost use Rattle.connection_core.specs.Outgoing.{Outgoing, waiting_count, written_text};
+ghost use Rattle.resend_plan.specs.Wire.{NamesEntry};
+ghost use Rattle.resend_plan.specs.declared.item.Names2.{Names2};
+ghost use Rattle.resend_plan.specs.declared.item.WireItem.{WireItem};
 ghost use Rattle.lease_core.specs.State.{state_of};
 ghost use Rattle.session_book.specs.Acts.{after_binding, after_dial, after_end, after_lapse, after_message, after_request, after_ticking};
-ghost use Rattle.session_book.specs.Book.{Desk, with_event, with_outbox};
+ghost use Rattle.session_book.specs.Book.{Book, Desk, with_event, with_outbox};
 ghost use Rattle.session_book.specs.Items.{QueuesWhatIsTold};
 ghost use Rattle.lease_core.specs.declared.word.Word.{Word};
 ghost use Rattle.session_book.specs.Kept.{IsBook};
+ghost use Rattle.session_book.specs.Runs.{Handled, IsRunOver, handled_of, with_body};
+ghost use Rattle.lease_core.specs.declared.entry.Entry.{Entry};
+ghost use Rattle.session_core.specs.State.{IsState, State};
+ghost use Rattle.session_book.specs.Sends.{AreSendsOf, new_sends};
+ghost use Rattle.message_log.specs.declared.entry.OutEntry.{OutEntry};
+ghost use Rattle.session_book.specs.Texts.{IsTextOf, outbound_text};
 ghost use Rattle.session_book.specs.Told.{CarriesOut};
 ghost use Rattle.lease_core.specs.declared.event.Event.TheVariants.{Binds};
 ghost use Rattle.session_core.specs.Ask.{ask};
@@ -14,8 +25,14 @@ ghost use Rattle.session_core.specs.Receive.{receive};
 ghost use Rattle.session_core.specs.Tick.{tick};
 ghost use Rattle.session_book.specs.Words.{after_timeout, after_word, shown_sends};
 
+use connection_core::{items_have_text, items_stay_queued};
 use lease_core::laws::entries_decide_one_by_one;
 use message_log::{entries_stay, logs_go_on};
+use resend_plan::{items_stay, plans_answer};
+use session_core::laws::{
+    acts_of_messages, acts_of_ticks, moments_dont_matter, runs_in_parts, sameness_laws,
+    texts_of_messages,
+};
 
 /// What comes to wait on the bound connection is what the journal tells, in order: one item for each
 /// message that is numbered, and those of each plan over the log up to there.
@@ -38,6 +55,8 @@ pub fn what_is_told_is_queued()
     entries_decide_one_by_one();
     entries_stay();
     logs_go_on();
+    items_stay();
+    plans_answer();
 }
 
 /// The acts of the session machine are what the journal tells, one entry for each act, in order.
@@ -53,4 +72,170 @@ pub fn acts_are_told()
     entries_decide_one_by_one();
     entries_stay();
     logs_go_on();
+    items_stay();
+    plans_answer();
+}
+
+/// The journal tells of the session's connections, one after another, and of what was handled of
+/// each. It begins with no connection, behind any entries that bind the session to none, and each
+/// event goes on with it.
+pub fn runs_are_told()
+    ensures first { (book : Book) → (state_of book.entries).bound ≡ None → IsRunOver book.entries book.machine [] book }
+    ensures bind { (before : List Entry) (start : State) (handled : List Handled) (c at : ℕ) (body : List ℕ) (desk : Desk) → IsBook desk.book → IsState desk.book.machine
+        → (state_of desk.book.entries).bound ≡ None → desk.book.machine.dials ≡ None → IsRunOver before start handled desk.book
+        → IsRunOver before start (handled ++ handled_of c (body ∷ []) ∷ []) (after_binding at c body desk).book }
+    ensures dial { (before : List Entry) (start : State) (handled : List Handled) (c at : ℕ) (desk : Desk) → IsBook desk.book → (state_of desk.book.entries).bound ≡ None
+        → IsRunOver before start handled desk.book → IsRunOver before start (handled ++ handled_of c [] ∷ []) (after_dial at c desk).book }
+    // A message is one more of the last connection.
+    ensures message { (before : List Entry) (start : State) (handled : List Handled) (c at : ℕ) (body : List ℕ) (desk : Desk) → IsBook desk.book → IsState desk.book.machine
+        → (state_of desk.book.entries).bound ≡ Some c → IsRunOver before start handled desk.book
+        → IsRunOver before start (with_body body handled) (after_message at body desk).book }
+    ensures leave { (before : List Entry) (start : State) (handled : List Handled) (c : ℕ) (book : Book) → (state_of book.entries).bound ≡ Some c
+        → IsRunOver before start handled book → IsRunOver before start handled (after_end c book) }
+    // Neither the clock nor the leases add an act.
+    ensures tick { (before : List Entry) (start : State) (handled : List Handled) (at : ℕ) (desk : Desk) → IsBook desk.book
+        → IsRunOver before start handled desk.book → IsRunOver before start handled (after_ticking at desk).book }
+    ensures word { (before : List Entry) (start : State) (handled : List Handled) (at until : ℕ) (w : Word) (bodies : List (List ℕ)) (desk : Desk)
+        → IsRunOver before start handled desk.book → IsRunOver before start handled (after_word at until w bodies desk).book }
+    ensures timeout { (before : List Entry) (start : State) (handled : List Handled) (at until : ℕ) (old : Word) (bodies : List (List ℕ)) (desk : Desk)
+        → IsRunOver before start handled desk.book → IsRunOver before start handled (after_timeout at until old bodies desk).book }
+    ensures request { (before : List Entry) (start : State) (handled : List Handled) (library nr from : ℕ) (book : Book)
+        → IsRunOver before start handled book → IsRunOver before start handled (after_request library nr from book) }
+    ensures lapse { (before : List Entry) (start : State) (handled : List Handled) (book : Book)
+        → IsRunOver before start handled book → IsRunOver before start handled (after_lapse book) }
+{
+    entries_decide_one_by_one();
+    entries_stay();
+    logs_go_on();
+    moments_dont_matter();
+    runs_in_parts();
+    sameness_laws();
+    texts_of_messages();
+    acts_of_messages();
+    acts_of_ticks();
+    items_stay();
+    plans_answer();
+}
+
+/// What is queued on a connection is what the journal tells of it, in order, and so what is written
+/// begins its outbound text, whatever comes: while the session is bound to it, and from then on.
+pub fn texts_are_told()
+    // Nothing was queued before the connection is bound.
+    ensures bind { (names : Names2) (before first : List Entry) (c at : ℕ) (body : List ℕ) (desk : Desk) → IsBook desk.book → desk.book.entries ≡ before ++ first
+        → AreItemsOf names desk.book.outbound [] desk.outgoing → IsTextOf names before c (after_binding at c body desk).book (after_binding at c body desk).outgoing }
+    ensures dial { (names : Names2) (before first : List Entry) (c at : ℕ) (desk : Desk) → IsBook desk.book → desk.book.entries ≡ before ++ first
+        → AreItemsOf names desk.book.outbound [] desk.outgoing → IsTextOf names before c (after_dial at c desk).book (after_dial at c desk).outgoing }
+    // On the session that is bound to it.
+    ensures message { (names : Names2) (before : List Entry) (c at : ℕ) (body : List ℕ) (desk : Desk) → IsBook desk.book → (state_of desk.book.entries).bound ≡ Some c
+        → IsTextOf names before c desk.book desk.outgoing → IsTextOf names before c (after_message at body desk).book (after_message at body desk).outgoing }
+    ensures tick { (names : Names2) (before : List Entry) (c at : ℕ) (desk : Desk) → IsBook desk.book → (state_of desk.book.entries).bound ≡ Some c
+        → IsTextOf names before c desk.book desk.outgoing → IsTextOf names before c (after_ticking at desk).book (after_ticking at desk).outgoing }
+    ensures word { (names : Names2) (before : List Entry) (c at until : ℕ) (w : Word) (bodies : List (List ℕ)) (desk : Desk) → IsBook desk.book → (state_of desk.book.entries).bound ≡ Some c
+        → length bodies ≡ shown_sends desk.book.entries w
+        → IsTextOf names before c desk.book desk.outgoing → IsTextOf names before c (after_word at until w bodies desk).book (after_word at until w bodies desk).outgoing }
+    ensures timeout { (names : Names2) (before : List Entry) (c at until : ℕ) (old : Word) (bodies : List (List ℕ)) (desk : Desk) → IsBook desk.book → (state_of desk.book.entries).bound ≡ Some c
+        → length bodies ≡ shown_sends desk.book.entries old
+        → IsTextOf names before c desk.book desk.outgoing → IsTextOf names before c (after_timeout at until old bodies desk).book (after_timeout at until old bodies desk).outgoing }
+    ensures request { (names : Names2) (before : List Entry) (c library nr from : ℕ) (desk : Desk) → IsBook desk.book → (state_of desk.book.entries).bound ≡ Some c
+        → IsTextOf names before c desk.book desk.outgoing → IsTextOf names before c (after_request library nr from desk.book) desk.outgoing }
+    ensures lapse { (names : Names2) (before : List Entry) (c : ℕ) (desk : Desk) → IsBook desk.book → (state_of desk.book.entries).bound ≡ Some c
+        → IsTextOf names before c desk.book desk.outgoing → IsTextOf names before c (after_lapse desk.book) desk.outgoing }
+    // Where texts are made and written, as `items_stay_queued` of connection_core has it.
+    ensures kept { (names : Names2) (before : List Entry) (c : ℕ) (book : Book) (out later : Outgoing)
+        → ((items : List WireItem) → AreItemsOf names book.outbound items out → AreItemsOf names book.outbound items later)
+        → IsTextOf names before c book out → IsTextOf names before c book later }
+    ensures leave { (names : Names2) (before : List Entry) (c d : ℕ) (book : Book) (out : Outgoing) → IsTextOf names before c book out → IsTextOf names before c (after_end d book) out }
+    // What is written begins the outbound text.
+    ensures written { (names : Names2) (before : List Entry) (c : ℕ) (book : Book) (out : Outgoing) (text : IsTextOf names before c book out)
+        → written_text out ≡ take out.written (outbound_text names book.outbound text.spell) }
+    // Where nothing waits, all of it is written.
+    ensures whole { (names : Names2) (before : List Entry) (c : ℕ) (book : Book) (out : Outgoing) (text : IsTextOf names before c book out)
+        → waiting_count out ≡ 0 → written_text out ≡ outbound_text names book.outbound text.spell }
+    // What has no text names entries of the log, as `prepare` wants it.
+    ensures unmade { (names : Names2) (before : List Entry) (c : ℕ) (book : Book) (out : Outgoing) → IsTextOf names before c book out → All (NamesEntry book.outbound) out.unmade }
+{
+    entries_decide_one_by_one();
+    entries_stay();
+    logs_go_on();
+    moments_dont_matter();
+    runs_in_parts();
+    sameness_laws();
+    texts_of_messages();
+    acts_of_messages();
+    acts_of_ticks();
+    items_stay_queued();
+    items_have_text();
+    items_stay();
+    plans_answer();
+}
+
+/// The outbound text of a connection stays what it is while the session goes on with others.
+pub fn texts_stay()
+    ensures message { (names : Names2) (before : List Entry) (c at : ℕ) (body : List ℕ) (desk : Desk) (out : Outgoing) → IsBook desk.book → (state_of desk.book.entries).bound ≢ Some c
+        → IsTextOf names before c desk.book out → IsTextOf names before c (after_message at body desk).book out }
+    ensures tick { (names : Names2) (before : List Entry) (c at : ℕ) (desk : Desk) (out : Outgoing) → IsBook desk.book → (state_of desk.book.entries).bound ≢ Some c
+        → IsTextOf names before c desk.book out → IsTextOf names before c (after_ticking at desk).book out }
+    ensures word { (names : Names2) (before : List Entry) (c at until : ℕ) (w : Word) (bodies : List (List ℕ)) (desk : Desk) (out : Outgoing) → (state_of desk.book.entries).bound ≢ Some c
+        → IsTextOf names before c desk.book out → IsTextOf names before c (after_word at until w bodies desk).book out }
+    ensures timeout { (names : Names2) (before : List Entry) (c at until : ℕ) (old : Word) (bodies : List (List ℕ)) (desk : Desk) (out : Outgoing) → (state_of desk.book.entries).bound ≢ Some c
+        → IsTextOf names before c desk.book out → IsTextOf names before c (after_timeout at until old bodies desk).book out }
+    ensures request { (names : Names2) (before : List Entry) (c library nr from : ℕ) (book : Book) (out : Outgoing) → (state_of book.entries).bound ≢ Some c
+        → IsTextOf names before c book out → IsTextOf names before c (after_request library nr from book) out }
+    ensures lapse { (names : Names2) (before : List Entry) (c : ℕ) (book : Book) (out : Outgoing) → (state_of book.entries).bound ≢ Some c
+        → IsTextOf names before c book out → IsTextOf names before c (after_lapse book) out }
+    // Another connection is bound.
+    ensures bind { (names : Names2) (before : List Entry) (c d at : ℕ) (body : List ℕ) (desk : Desk) (out : Outgoing) → IsBook desk.book → d ≢ c
+        → IsTextOf names before c desk.book out → IsTextOf names before c (after_binding at d body desk).book out }
+    ensures dial { (names : Names2) (before : List Entry) (c d at : ℕ) (desk : Desk) (out : Outgoing) → IsBook desk.book → d ≢ c
+        → IsTextOf names before c desk.book out → IsTextOf names before c (after_dial at d desk).book out }
+{
+    entries_decide_one_by_one();
+    entries_stay();
+    logs_go_on();
+    moments_dont_matter();
+    runs_in_parts();
+    sameness_laws();
+    texts_of_messages();
+    acts_of_messages();
+    acts_of_ticks();
+    items_stay_queued();
+    items_stay();
+    plans_answer();
+}
+
+/// What the outbound log has for a library's sends is what was taken from it, in order: each body as
+/// it was taken, with the moment at which it was recorded.
+pub fn sends_are_told()
+    ensures first { (library : ℕ) (book : Book) → AreSendsOf library book.entries [] book }
+    ensures word { (library : ℕ) (before : List Entry) (sends : List OutEntry) (at until : ℕ) (w : Word) (bodies : List (List ℕ)) (desk : Desk) → IsBook desk.book
+        → length bodies ≡ shown_sends desk.book.entries w → AreSendsOf library before sends desk.book
+        → AreSendsOf library before (sends ++ new_sends library desk.book at bodies) (after_word at until w bodies desk).book }
+    ensures timeout { (library : ℕ) (before : List Entry) (sends : List OutEntry) (at until : ℕ) (old : Word) (bodies : List (List ℕ)) (desk : Desk) → IsBook desk.book
+        → length bodies ≡ shown_sends desk.book.entries old → AreSendsOf library before sends desk.book
+        → AreSendsOf library before (sends ++ new_sends library desk.book at bodies) (after_timeout at until old bodies desk).book }
+    // Nothing else sends for a library.
+    ensures message { (library : ℕ) (before : List Entry) (sends : List OutEntry) (at : ℕ) (body : List ℕ) (desk : Desk) → IsBook desk.book
+        → AreSendsOf library before sends desk.book → AreSendsOf library before sends (after_message at body desk).book }
+    ensures tick { (library : ℕ) (before : List Entry) (sends : List OutEntry) (at : ℕ) (desk : Desk) → IsBook desk.book
+        → AreSendsOf library before sends desk.book → AreSendsOf library before sends (after_ticking at desk).book }
+    ensures bind { (library : ℕ) (before : List Entry) (sends : List OutEntry) (c at : ℕ) (body : List ℕ) (desk : Desk) → IsBook desk.book
+        → AreSendsOf library before sends desk.book → AreSendsOf library before sends (after_binding at c body desk).book }
+    ensures dial { (library : ℕ) (before : List Entry) (sends : List OutEntry) (c at : ℕ) (desk : Desk) → IsBook desk.book
+        → AreSendsOf library before sends desk.book → AreSendsOf library before sends (after_dial at c desk).book }
+    ensures leave { (library : ℕ) (before : List Entry) (sends : List OutEntry) (c : ℕ) (book : Book) → AreSendsOf library before sends book → AreSendsOf library before sends (after_end c book) }
+    ensures request { (library : ℕ) (before : List Entry) (sends : List OutEntry) (by nr from : ℕ) (book : Book)
+        → AreSendsOf library before sends book → AreSendsOf library before sends (after_request by nr from book) }
+    ensures lapse { (library : ℕ) (before : List Entry) (sends : List OutEntry) (book : Book) → AreSendsOf library before sends book → AreSendsOf library before sends (after_lapse book) }
+{
+    entries_decide_one_by_one();
+    entries_stay();
+    logs_go_on();
+    moments_dont_matter();
+    runs_in_parts();
+    sameness_laws();
+    texts_of_messages();
+    acts_of_messages();
+    acts_of_ticks();
+    items_stay();
+    plans_answer();
 }

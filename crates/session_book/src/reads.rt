@@ -7,6 +7,7 @@ ghost use Rattle.lease_core.specs.Lines.{lines_of, word_of};
 ghost use Rattle.lease_core.specs.Runs.{IsRun, owes_hold};
 ghost use Rattle.lease_core.specs.State.{lease_of, owner_of, state_of};
 ghost use Rattle.resend_plan.specs.Fit.{AreShort, HasFitBodies};
+ghost use Rattle.session_core.specs.State.{IsState};
 ghost use Rattle.session_core.specs.Tick.{does_nothing_at};
 ghost use Rattle.session_book.specs.Kept.{AreNamesOf, IsBook};
 
@@ -47,6 +48,7 @@ impl SessionBook {
         ensures number { result ≡ self.now.book.machine.line.expected }
         // What holds of every session.
         ensures book { IsBook self.now.book }
+        ensures machine { IsState self.now.book.machine }
     {
         self.machine.expected()
     }

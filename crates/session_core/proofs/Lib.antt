@@ -12,3 +12,4 @@ pub mod Rises
 pub mod StepFacts
 pub mod States
 pub mod PhaseFacts
+pub mod TickFacts

@@ -10,7 +10,7 @@ use Rattle.session_core.specs.Receive.{Outcome, after_outcome, after_receive, ex
 use Rattle.session_core.specs.Route.{answer_in, bound_to, demand, demand_some, session_of, terms_of}
 use Rattle.session_core.specs.Runs.{binds, routes}
 use Rattle.session_core.specs.Said.{has_value}
-use Rattle.session_core.specs.State.{State}
+use Rattle.session_core.specs.State.{State, heart_in}
 use Rattle.session_core.specs.declared.causes.Cause.{Cause}
 use Rattle.session_core.specs.declared.causes.Cause.TheVariants.{NotLogon, NoSuchSession}
 use Rattle.session_core.specs.declared.names.Names.{Names}
@@ -94,5 +94,36 @@ binds_on names state body m off accepts is none =
     subst (λ (o : Outcome). (after_outcome state o m).phase ≢ Off) (sym same)
     (terms_on state (terms_for None fields) m (terms_some names fields is) (subst (λ (o : Outcome). IsNone o.effects.end) same none))
 
+-- its HeartBtInt stays
+heart_if : (b : Bool) (heart : ℕ) (s t : State) → heart_in s.phase ≡ heart → heart_in t.phase ≡ heart → heart_in (if b then s else t).phase ≡ heart
+heart_if true heart s t is other = is
+heart_if false heart s t is other = other
+
+heart_either : (b : Bool) (heart : ℕ) (o p : Outcome) → heart_in o.phase ≡ heart → heart_in p.phase ≡ heart → heart_in (if b then o else p).phase ≡ heart
+heart_either true heart o p is other = is
+heart_either false heart o p is other = other
+
+answer_heart : (state : State) (heart n : ℕ) → heart_in (outcome_of_answer state.line heart n).phase ≡ heart
+unfolding outcome_of_answer
+answer_heart state heart n = heart_either (nat_lt n state.line.expected) heart (outcome_of_low_answer state.line heart n) (outcome_of_good_answer state.line heart n) refl refl
+
+asked_heart : (state : State) (heart : ℕ) (answer : Result ℕ Cause) → heart_in state.phase ≡ heart → heart_in (outcome_asked state heart answer).phase ≡ heart
+asked_heart state heart (Ok n) is = answer_heart state heart n
+asked_heart state heart (Err cause) is = is
+
+step_heart : (state : State) (body : List ℕ) (step : Option Step) (heart : ℕ) → heart_in state.phase ≡ heart → heart_in (outcome_of_step state body step).phase ≡ heart
+step_heart state body None heart is = is
+step_heart state body (Some step) heart is = is
+
+outcome_heart : (phase : Phase) (state : State) (body : List ℕ) (fields : Option (List Field)) → phase ≢ Off → state.phase ≡ phase → heart_in (outcome_in phase state body fields).phase ≡ heart_in phase
+outcome_heart Off state body fields is same = absurd (is refl)
+outcome_heart (Asked heart) state body fields is same = asked_heart state heart (answer_in state.names heart fields) (ap heart_in same)
+outcome_heart (On heart) state body fields is same = step_heart state body (step_in state.names state.line.expected fields) heart (ap heart_in same)
+
+heart_stays : (state : State) (body : List ℕ) (m : ℕ) → state.phase ≢ Off → heart_in (after_receive state body m).phase ≡ heart_in state.phase
+unfolding outcome
+heart_stays state body m on =
+    heart_if (outcome state body).heard (heart_in state.phase) _ state (outcome_heart state.phase state body (result_ok (fields_of body)) on refl) refl
+
 pub phases_follow : PhasesFollow
-phases_follow = record { stays_on = stays_on; binds = binds_on }
+phases_follow = record { stays_on = stays_on; binds = binds_on; heart = heart_stays }

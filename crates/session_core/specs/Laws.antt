@@ -1,18 +1,23 @@
 -- Laws of the definitions, each proved as the clause of a function of `laws`.
-use Rattle.std.specs.Prelude.{◌≡◌, ◌≢◌, ℕ, ◌+◌, ◌≤◌, ◌⊎◌, true, false, None, IsNone, IfSome, List, ◌++◌, drop, Option, Some}
+use Rattle.std.specs.Prelude.{◌≡◌, ◌≢◌, ℕ, ◌+◌, ◌*◌, ◌≤◌, ◌⊎◌, true, false, None, IsNone, IfSome, List, [], ◌∷◌, ◌++◌, drop, Option, Some}
 use Rattle.std.specs.FinMap.{get, len}
 use Rattle.std.specs.List.{All}
 use Rattle.gate_io.specs.declared.clocks.TheConstants.{LAST_MOMENT}
 use Rattle.seq_gaps.specs.Line.{Line, IsNotHeld, fresh_line, after_fill}
 use Rattle.seq_gaps.specs.declared.offered.TheConstants.{HELD_LIMIT, MAX_NUMBER}
+use Rattle.fix_frame.specs.Frame.{IsBody}
+use Rattle.session_core.specs.Admin.{admin_text, is_tick_text}
 use Rattle.session_core.specs.Ask.{after_ask}
 use Rattle.session_core.specs.Carry.{Progress, after_carrying, after_draining, after_handling}
 use Rattle.session_core.specs.Receive.{receive, after_receive}
 use Rattle.session_core.specs.Runs.{binds, behind_all, acts_on, acts_of, after_connections, until_end, handled_bodies, NoneEnds, LastEnds, Event, after_events, acts_in, bodies_in, SameButMoments}
-use Rattle.session_core.specs.State.{State, IsState, IsDialHeart, new_state, after_leave}
-use Rattle.session_core.specs.Tasks.{IsReply, SendsShortTexts, is_tick_act, is_reset_act}
-use Rattle.session_core.specs.Tick.{after_tick}
+use Rattle.session_core.specs.State.{State, IsState, IsDialHeart, new_state, after_leave, heart_in}
+use Rattle.session_core.specs.Tasks.{IsReply, SendsShortTexts, is_tick, is_tick_act, is_reset_act}
+use Rattle.session_core.specs.Tick.{after_tick, tick}
 use Rattle.session_core.specs.declared.acts.Act.{Act}
+use Rattle.session_core.specs.declared.acts.Act.TheVariants.{Send}
+use Rattle.session_core.specs.declared.acts.Admin.{Admin}
+use Rattle.session_core.specs.declared.acts.Admin.TheVariants.{Heartbeat, TestRequest}
 use Rattle.session_core.specs.declared.names.Names.{Names}
 use Rattle.session_core.specs.declared.phases.Phase.TheVariants.{Off, On}
 use Rattle.session_core.specs.declared.tasks.Task.{Task}
@@ -58,6 +63,24 @@ pub record PhasesFollow : Type 0 where
   -- the Logon that binds a session is answered, unless it ends the connection
   pub binds : (names : List Names) (state : State) (body : List ℕ) (m : ℕ) → state.phase ≡ Off → state.dials ≡ None → binds names body ≡ true
       → IsNone (receive state body m).end → (after_receive state body m).phase ≢ Off
+  -- the HeartBtInt on which the Logon agreed stays while the connection stands
+  pub heart : (state : State) (body : List ℕ) (m : ℕ) → state.phase ≢ Off → heart_in (after_receive state body m).phase ≡ heart_in state.phase
+
+-- Nothing, or a TestRequest, or a Heartbeat where nothing was sent for this HeartBtInt.
+abbrev pub AsksOneAct : State → ℕ → ℕ → List Act → Type 0
+AsksOneAct state heart m acts =
+    (acts ≡ []) ⊎ ((acts ≡ Send TestRequest ∷ []) ⊎ ((acts ≡ Send (Heartbeat None) ∷ []) × (state.sent + 1000 * heart ≤ m)))
+
+-- what the clock asks
+abbrev pub ActsOfTicks : Type 0
+ActsOfTicks = (state : State) (m : ℕ) → AsksOneAct state (heart_in state.phase) m (tick state m).acts
+
+-- what the text of a session message is
+pub record TextsOfMessages : Type 0 where
+  -- the body of a frame
+  pub body : (message : Admin) (number : ℕ) → IsBody (admin_text message number)
+  -- that of what the clock alone sends is told from all others
+  pub tick : (message : Admin) (number : ℕ) → is_tick_text (admin_text message number) ≡ is_tick message
 
 -- two states that are the same but for moments
 pub record SamenessLaws : Type 0 where

@@ -1,6 +1,6 @@
 //! Laws of the definitions that the contracts of this crate cite. The functions do nothing.
 
-ghost use Rattle.session_core.specs.Laws.{StatesStayLawful, ExpectedIsCarriedOut, ActsOfMessages, OnlyLogonsReset, PhasesFollow, SamenessLaws, MomentsDontMatter, RunsFollowBodies, RunsInParts, HandledInParts, LeavesNoneReady, NumbersGoForward, RisesByWhatIsHeld, HandlesWhatCameFirst};
+ghost use Rattle.session_core.specs.Laws.{StatesStayLawful, ExpectedIsCarriedOut, ActsOfMessages, ActsOfTicks, OnlyLogonsReset, PhasesFollow, TextsOfMessages, SamenessLaws, MomentsDontMatter, RunsFollowBodies, RunsInParts, HandledInParts, LeavesNoneReady, NumbersGoForward, RisesByWhatIsHeld, HandlesWhatCameFirst};
 ghost use Rattle.session_core.specs.Lines.{LineLaws};
 
 use crate::tasks::Task;
@@ -29,6 +29,11 @@ pub fn acts_of_messages()
     line_laws();
 }
 
+/// The clock asks for at most one act, and for a Heartbeat only where nothing was sent for HeartBtInt.
+pub fn acts_of_ticks()
+    ensures { ActsOfTicks }
+{}
+
 /// A message on a session whose Logon was answered asks for no reset.
 pub fn only_logons_reset()
     ensures { OnlyLogonsReset }
@@ -37,9 +42,14 @@ pub fn only_logons_reset()
 }
 
 /// A session whose connection stands isn't off: the Logon that binds it is answered, unless it ends the
-/// connection, and no message that comes later turns it off.
+/// connection, and no message that comes later turns it off or changes its HeartBtInt.
 pub fn phases_follow()
     ensures { PhasesFollow }
+{}
+
+/// The text of a session message is the body of a frame, and tells whether the clock alone sends it.
+pub fn texts_of_messages()
+    ensures { TextsOfMessages }
 {}
 
 /// To be the same but for moments is an equivalence, and each call keeps it.

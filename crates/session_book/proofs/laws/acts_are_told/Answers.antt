@@ -5,7 +5,7 @@ use Rattle.session_book.proofs.Carried.{bound_with, carried_with}
 use Rattle.session_book.proofs.Telling.{Grounds}
 use Rattle.session_book.proofs.laws.acts_are_told.Goals as goal
 
-grounds : goal.After-logs_go_on → Grounds
+grounds : goal.After-plans_answer → Grounds
 grounds c = record {
   begins = c.entries_stay.ensures.beginning;
   itself = c.logs_go_on.ensures.itself;
@@ -14,6 +14,8 @@ grounds c = record {
   further = c.logs_go_on.ensures.further;
   decide = c.entries_decide_one_by_one.ensures.state;
   decide_over = c.entries_decide_one_by_one.ensures.states;
+  names = c.items_stay.ensures.all_named;
+  plans = c.plans_answer.ensures.named;
 }
 
 pub returns-clause-message : goal.returns-clause-message

@@ -1,7 +1,7 @@
 use Rattle.session_book.proofs.Telling.{Grounds, binding_tells, dial_tells, message_tells, end_tells, lapse_tells, queues_then, request_tells, tick_tells, timeout_tells, word_tells}
 use Rattle.session_book.proofs.laws.what_is_told_is_queued.Goals as goal
 
-grounds : goal.After-logs_go_on → Grounds
+grounds : goal.After-plans_answer → Grounds
 grounds c = record {
   begins = c.entries_stay.ensures.beginning;
   itself = c.logs_go_on.ensures.itself;
@@ -10,6 +10,8 @@ grounds c = record {
   further = c.logs_go_on.ensures.further;
   decide = c.entries_decide_one_by_one.ensures.state;
   decide_over = c.entries_decide_one_by_one.ensures.states;
+  names = c.items_stay.ensures.all_named;
+  plans = c.plans_answer.ensures.named;
 }
 
 pub returns-clause-message : goal.returns-clause-message
@@ -40,4 +42,4 @@ pub returns-clause-lapse : goal.returns-clause-lapse
 returns-clause-lapse c = lapse_tells (grounds c)
 
 pub returns-clause-further : goal.returns-clause-further
-returns-clause-further c = queues_then c.entries_stay.ensures.beginning c.logs_go_on.ensures.further c.entries_decide_one_by_one.ensures.states
+returns-clause-further c = queues_then c.entries_stay.ensures.beginning c.logs_go_on.ensures.further c.entries_decide_one_by_one.ensures.states c.items_stay.ensures.all_named
