@@ -11,3 +11,5 @@ pub mod TextRuns
 pub mod TextEvents
 pub mod SendRuns
 pub mod SendEvents
+pub mod ReadingBack
+pub mod Handing

@@ -8,3 +8,5 @@ pub mod Spells
 pub mod Runs
 pub mod Texts
 pub mod Sends
+pub mod Reviving
+pub mod Records

@@ -11,6 +11,10 @@ pub mod laws;
 mod leases;
 mod messages;
 mod reads;
+mod records;
+mod reviving;
 
 pub use book::SessionBook;
 pub use reads::SessionRecord;
+pub use records::Unkept;
+pub use reviving::{Revival, texts_tell_session_entries};
