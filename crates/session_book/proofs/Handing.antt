@@ -1,15 +1,14 @@
 -- The entries that weren't handed out, and in which series each was made.
-use Rattle.std.proofs.Common.{◌≡◌, ℕ, zero, suc, ◌+◌, ◌-◌, ◌≤◌, ◌<◌, List, [], ◌∷◌, ◌++◌, append_assoc, drop, get_or, length, length-drop, replicate, set, take, take_all, refl, sym, ap, ◌∙◌, arith}
+use Rattle.std.proofs.Common.{◌≡◌, ℕ, zero, suc, ◌+◌, ◌-◌, ◌≤◌, ◌<◌, List, [], ◌∷◌, ◌++◌, drop, get_or, length, length-drop, replicate, set, take, take_all, refl, sym, ap, ◌∙◌, arith}
 use Rattle.std.proofs.lemmas.List.{drop_more, length-map, length_push, take-append-drop}
 use Rattle.std.specs.Prelude.{fold}
 use Rattle.lease_core.specs.Laws.{EntriesDecideOver}
 use Rattle.lease_core.specs.State.{State as Totals, series_of, state_after, state_of}
 use Rattle.lease_core.specs.declared.entry.Entry.{Entry}
 use Rattle.lease_core.specs.declared.entry.Entry.TheVariants.{Arrive, Admin, Bind, Plan, Leave, Reset, Granted, Refused, Send, Release, Timeout, Hold, Lapse}
-use Rattle.lease_core.specs.declared.record.Record.{Record}
 use Rattle.session_book.specs.Book.{Book}
 use Rattle.session_book.specs.Kept.{IsBook}
-use Rattle.session_book.specs.Records.{bind_numbers, record_of, records_from, series_behind, series_over}
+use Rattle.session_book.specs.Records.{bind_numbers, series_behind, series_over}
 use Rattle.session_book.proofs.News.{length_changed}
 
 -- more series before are more behind
@@ -36,11 +35,11 @@ over_all : (series : ℕ) (es : List Entry) → series_over series es ≡ series
 over_all series es = let none : series + 0 ≡ series = omega arith in sym (ap (λ n. series_over n es) none) ∙ over_more series 0 es
 
 -- a series is never behind an earlier one
-over_least : (series : ℕ) (es : List Entry) → series ≤ series_over series es
+pub over_least : (series : ℕ) (es : List Entry) → series ≤ series_over series es
 over_least series es = let same = over_all series es in omega arith
 
 -- the journal's series goes on by its resets
-series_stepped : (s : Totals) (e : Entry) → series_of (state_after s e) ≡ series_behind (series_of s) e
+pub series_stepped : (s : Totals) (e : Entry) → series_of (state_after s e) ≡ series_behind (series_of s) e
 series_stepped s (Arrive pos) = refl
 series_stepped s (Admin number) = length_changed s.series
 series_stepped s (Bind c) = refl
@@ -55,7 +54,7 @@ series_stepped s (Timeout lease library count) = refl
 series_stepped s (Hold lease until) = refl
 series_stepped s (Lapse lease) = refl
 
-series_folded : (s : Totals) (es : List Entry) → series_of (fold state_after s es) ≡ series_over (series_of s) es
+pub series_folded : (s : Totals) (es : List Entry) → series_of (fold state_after s es) ≡ series_over (series_of s) es
 series_folded s [] = refl
 series_folded s (e ∷ es) = series_folded (state_after s e) es ∙ ap (λ n. series_over n es) (series_stepped s e)
 
@@ -90,20 +89,6 @@ pub behind_within : (series k bound : ℕ) (es : List Entry) (d : Entry) → k <
 behind_within series k bound es d within below =
     let least = over_least (series_behind series (get_or es k d)) (drop (k + 1) es) in
     let same = over_step series k es d within in omega arith
-
--- the next record
-pub records_step :
-    (s : ℕ) (book : Book) (series k : ℕ) (es : List Entry) (ns : List ℕ) (d : Entry) (made : List Record)
-    → k < length es
-    → k < length ns
-    → (made ++ record_of s book series (get_or es k d) (get_or ns k 0) ∷ []) ++ records_from s book (series_behind series (get_or es k d)) (drop (k + 1) es) (drop (k + 1) ns)
-    ≡ made ++ records_from s book series (drop k es) (drop k ns)
-records_step s book series k es ns d made within_es within_ns =
-    append_assoc made (record_of s book series (get_or es k d) (get_or ns k 0) ∷ []) _
-    ∙ sym (
-    ap (λ (xs : List Entry). made ++ records_from s book series xs (drop k ns)) (drop_more es k d within_es)
-    ∙ ap (λ (ys : List ℕ). made ++ records_from s book series (get_or es k d ∷ drop (k + 1) es) ys) (drop_more ns k 0 within_ns)
-    )
 
 -- the Bind has the number from before it
 bind_set : (xs : List ℕ) (now before count : ℕ) → 0 < count → set (xs ++ replicate count now) (length xs) before ≡ xs ++ bind_numbers before now count

@@ -13,3 +13,4 @@ pub mod SendRuns
 pub mod SendEvents
 pub mod ReadingBack
 pub mod Handing
+pub mod RoundTrip

@@ -10,3 +10,4 @@ pub mod Texts
 pub mod Sends
 pub mod Reviving
 pub mod Records
+pub mod Rereading

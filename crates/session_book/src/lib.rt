@@ -12,9 +12,11 @@ mod leases;
 mod messages;
 mod reads;
 mod records;
+mod rereading;
 mod reviving;
 
 pub use book::SessionBook;
 pub use reads::SessionRecord;
 pub use records::Unkept;
+pub use rereading::records_are_read_back;
 pub use reviving::{Revival, texts_tell_session_entries};
