@@ -1,7 +1,7 @@
 -- What is handed out of a session and read back is that session.
 use Rattle.std.proofs.Common.{◌≡◌, ℕ, ◌+◌, ◌-◌, ◌≤◌, ◌<◌, Bool, List, [], ◌∷◌, ◌++◌, append_assoc, drop, get_or, length, take, take-suc, take_all, zero, suc, Option, length-drop, refl, sym, ap, subst, ◌∙◌, arith, None, add-one}
 use Rattle.std.proofs.lemmas.Bool.{cond-false, ne_eqb}
-use Rattle.std.proofs.lemmas.List.{append-nil, take-append-drop}
+use Rattle.std.proofs.lemmas.List.{append-nil, length_push, take-append-drop, take-append-le}
 use Rattle.std.specs.List.{slice_get}
 use Rattle.std.specs.Prelude.{◌==◌, fold, slice_index_or, unwrap_or}
 use Rattle.lease_core.specs.Laws.{EntriesDecideOver, RunsGoOnOver}
@@ -15,12 +15,13 @@ use Rattle.lease_core.specs.declared.event.Event.TheVariants.{Arrives, AdminSent
 use Rattle.lease_core.specs.declared.messages.Reply.{Reply}
 use Rattle.lease_core.specs.declared.messages.Reply.TheVariants.{Granted as ToGranted, Refused as ToRefused}
 use Rattle.lease_core.specs.Steps.{reply_by}
+use Rattle.message_log.specs.Growth.{Gain, a_series, an_entry, log_after, with_gain}
 use Rattle.message_log.specs.Series.{entry_in, series_at, with_entry}
 use Rattle.message_log.specs.declared.entry.OutEntry.{OutEntry}
 use Rattle.resend_plan.specs.Wire.{entry_of, no_entry}
 use Rattle.session_book.specs.Book.{Book}
 use Rattle.session_book.specs.Records.{body_of, moment_of, records_from, series_behind, series_over}
-use Rattle.session_book.specs.Rereading.{AreMarked, IsMarked, RecordsAreReadBack, after_reading, first_entries, read_of}
+use Rattle.session_book.specs.Rereading.{AreMarked, IsMarked, ReadBackStays, RecordsAreReadBack, after_reading, first_entries, read_of, read_up_to}
 use Rattle.session_book.specs.Reviving.{ReadBack, after_read}
 use Rattle.session_book.proofs.Books.{lengths}
 use Rattle.session_book.proofs.Handing.{over_least, series_folded, series_stepped}
@@ -291,3 +292,42 @@ read_back decide runs = λ id book pending is run marked all.
     (ap (λ n. take n book.inbound) (sym is.inbound) ∙ take_all (length book.inbound) book.inbound (omega arith))
     ∙ ap (λ (log : List (List OutEntry)). record (read_of book) { outbound = log })
     (ap (λ (counts : List ℕ). first_entries counts book.outbound) (sym is.outbound) ∙ first_whole book.outbound)
+
+-- so many entries of a log stay as the log goes on
+fits_gained : (counts : List ℕ) (log : List (List OutEntry)) (gain : Gain) → FitsIn counts log → FitsIn counts (with_gain log gain)
+fits_gained [] log gain fits = tt
+fits_gained (n ∷ counts) [] gain fits = absurd fits
+fits_gained (n ∷ []) (entries ∷ []) (an_entry e) fits = (let more = length_push entries e in let few = fits.0 in omega arith, tt)
+fits_gained (n ∷ (m ∷ counts)) (entries ∷ []) (an_entry e) fits = absurd fits.1
+fits_gained (n ∷ counts) (entries ∷ (next ∷ log)) (an_entry e) fits = (fits.0, fits_gained counts (next ∷ log) (an_entry e) fits.1)
+fits_gained (n ∷ counts) (entries ∷ log) a_series fits = (fits.0, fits_gained counts log a_series fits.1)
+
+first_gained : (counts : List ℕ) (log : List (List OutEntry)) (gain : Gain) → FitsIn counts log → first_entries counts (with_gain log gain) ≡ first_entries counts log
+first_gained [] log gain fits = refl
+first_gained (n ∷ counts) [] gain fits = absurd fits
+first_gained (n ∷ []) (entries ∷ []) (an_entry e) fits = ap (λ es. es ∷ []) (take-append-le n entries (e ∷ []) fits.0)
+first_gained (n ∷ (m ∷ counts)) (entries ∷ []) (an_entry e) fits = absurd fits.1
+first_gained (n ∷ counts) (entries ∷ (next ∷ log)) (an_entry e) fits = ap (λ rest. take n entries ∷ rest) (first_gained counts (next ∷ log) (an_entry e) fits.1)
+first_gained (n ∷ counts) (entries ∷ log) a_series fits = ap (λ rest. take n entries ∷ rest) (first_gained counts log a_series fits.1)
+
+first_stays : (counts : List ℕ) (log : List (List OutEntry)) (gains : List Gain) → FitsIn counts log → first_entries counts (log_after log gains) ≡ first_entries counts log
+first_stays counts log [] fits = refl
+first_stays counts log (gain ∷ gains) fits = first_stays counts (with_gain log gain) gains (fits_gained counts log gain fits) ∙ first_gained counts log gain fits
+
+begins : {T : Type 0} (xs ys : List T) → take (length xs) (xs ++ ys) ≡ xs
+begins xs ys = take-append-le (length xs) xs ys (omega arith) ∙ take_all (length xs) xs (omega arith)
+
+pub read_stays : ReadBackStays
+read_stays before book is grown =
+    let entries_are : take (length before.entries) book.entries ≡ before.entries = ap (λ (es : List Entry). take (length before.entries) es) grown.entries_are ∙ begins before.entries grown.added in
+    let inbound_is : take (state_of before.entries).inbound book.inbound ≡ before.inbound =
+    ap (λ n. take n book.inbound) (sym is.inbound) ∙ ap (λ (log : List (List ℕ)). take (length before.inbound) log) grown.inbound ∙ begins before.inbound grown.more in
+    let outbound_is : first_entries (state_of before.entries).series book.outbound ≡ before.outbound =
+    ap (λ (counts : List ℕ). first_entries counts book.outbound) (sym is.outbound)
+    ∙ ap (λ (log : List (List OutEntry)). first_entries (lengths before.outbound) log) grown.outbound.grown
+    ∙ first_stays (lengths before.outbound) before.outbound grown.outbound.gains (fits_whole before.outbound)
+    ∙ first_whole before.outbound in
+    ap (λ (n : ℕ). record (read_up_to (length before.entries) book) { leases = n }) grown.leases
+    ∙ ap (λ (es : List Entry). record (reading before (state_of es) es) { inbound = take (state_of es).inbound book.inbound; outbound = first_entries (state_of es).series book.outbound }) entries_are
+    ∙ ap (λ (log : List (List ℕ)). record (read_of before) { inbound = log; outbound = first_entries (state_of before.entries).series book.outbound }) inbound_is
+    ∙ ap (λ (log : List (List OutEntry)). record (read_of before) { outbound = log }) outbound_is

@@ -1,10 +1,11 @@
 -- What is handed out of a session and read back is that session.
-use Rattle.std.specs.Prelude.{◌≡◌, ℕ, false, List, [], ◌∷◌, take}
+use Rattle.std.specs.Prelude.{◌++◌, length, ◌≡◌, ℕ, false, List, [], ◌∷◌, take}
 use Rattle.lease_core.specs.Runs.{IsRun}
 use Rattle.lease_core.specs.State.{State as Totals, opening, series_of, state_after, state_of}
 use Rattle.lease_core.specs.declared.entry.Entry.{Entry}
 use Rattle.lease_core.specs.declared.entry.Entry.TheVariants.{Admin, Send}
 use Rattle.lease_core.specs.declared.record.Record.{Record}
+use Rattle.message_log.specs.Growth.{GoesOn}
 use Rattle.message_log.specs.declared.entry.OutEntry.{OutEntry}
 use Rattle.resend_plan.specs.Wire.{entry_of}
 use Rattle.session_book.specs.Book.{Book}
@@ -52,3 +53,20 @@ RecordsAreReadBack =
     → AreMarked book.outbound opening book.entries
     → HasNotedAll pending book
     → after_reading (new_records s book pending) (read_up_to pending.handed book) ≡ read_of book
+
+-- a session went on
+pub record WentOn (before book : Book) : Type 0 where
+  pub leases : book.leases ≡ before.leases
+  pub added : List Entry
+  pub entries_are : book.entries ≡ before.entries ++ added
+  pub more : List (List ℕ)
+  pub inbound : book.inbound ≡ before.inbound ++ more
+  pub outbound : GoesOn before.outbound book.outbound
+
+-- What there was to be read back of a session, there still is as it goes on.
+abbrev pub ReadBackStays : Type 0
+ReadBackStays =
+    (before book : Book)
+    → IsBook before
+    → WentOn before book
+    → read_up_to (length before.entries) book ≡ read_of before
