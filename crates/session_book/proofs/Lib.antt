@@ -11,3 +11,8 @@ pub mod TextRuns
 pub mod TextEvents
 pub mod SendRuns
 pub mod SendEvents
+pub mod Moments
+pub mod MomentRuns
+pub mod MomentActs
+pub mod MomentEvents
+pub mod Wrong

@@ -26,14 +26,15 @@ use Rattle.session_core.specs.declared.acts.Effects.{Effects}
 use Rattle.session_book.specs.Acts.{after_act, after_acts, after_binding, after_dial, after_end, after_lapse, after_message, after_request, after_ticking, next_item, plan_items}
 use Rattle.session_book.specs.Book.{Book, Desk, after_sending, with_event, with_machine, with_outbox}
 use Rattle.session_book.specs.Kept.{IsBook}
-use Rattle.session_book.specs.Runs.{Handled, IsRunOver, IsWithin, StandsBehind, TellEach, bodies_of, handled_of, with_body}
+use Rattle.session_book.specs.Runs.{Handled, IsInside, IsRunOver, IsWithin, StandsBehind, TellEach, bodies_of, handled_of, with_body}
 use Rattle.session_book.specs.Spells.{is_act, is_act_of, placed, placed_from}
 use Rattle.session_book.specs.Told.{CarriesOut, TellActs, TellsAct}
 use Rattle.session_book.specs.Words.{after_timeout, after_word, send_items, with_news}
 use Rattle.session_book.proofs.Carried.{bound_with, carried_with}
-use Rattle.session_book.proofs.LeaseEntries.{AddsLeases, adds_one, adds_shown, adds_timed, leases_keep, leases_no_acts, reply_is_lease, sends_go_on}
+use Rattle.session_book.proofs.LeaseEntries.{AddsLeases, adds_one, adds_shown, adds_timed, leases_keep, leases_no_acts, leases_outside, reply_is_lease, sends_go_on}
 use Rattle.session_book.proofs.Runs.{Makes, RunGrounds, acts_keep, body_logged, closed_on, filter_no, opened_on, quiet_on, told_each, within_on}
-use Rattle.session_book.proofs.Spells.{changed_last}
+use Rattle.session_book.proofs.Carrying.{no_tick_off}
+use Rattle.session_book.proofs.Spells.{NoMachine, changed_last}
 
 abbrev NoTick : Act → Type 0
 NoTick act = is_tick_act act ≡ false
@@ -46,7 +47,7 @@ one_tick state heart m acts (inl none) = subst (λ found. All IsTick found) (sym
 one_tick state heart m acts (inr (inl test)) = subst (λ found. All IsTick found) (sym test) (All-cons IsTick _ [] refl (All-nil IsTick))
 one_tick state heart m acts (inr (inr beat)) = subst (λ found. All IsTick found) (sym beat.0) (All-cons IsTick _ [] refl (All-nil IsTick))
 
-ask_no_tick : (dials : Option ℕ) → All NoTick (logon_effects dials).acts
+pub ask_no_tick : (dials : Option ℕ) → All NoTick (logon_effects dials).acts
 ask_no_tick None = All-nil NoTick
 ask_no_tick (Some heart) = All-cons NoTick _ [] refl (All-nil NoTick)
 
@@ -56,8 +57,15 @@ first_run book none same = record {
   added = [];
   entries_are = sym (append-nil book.entries);
   told = tt;
+  inside = All-nil IsInside;
   machine = subst (λ b. StandsBehind b book.machine [] book.machine) (sym none) (same book.machine);
 }
+
+-- where no act is asked for no entry comes
+nothing_told : (inbound : List (List ℕ)) (log : List (List OutEntry)) (s : Totals) (acts : List Act) (es : List Entry) → TellActs inbound log s acts es → acts ≡ [] → All NoMachine es
+nothing_told inbound log s [] [] is none = All-nil NoMachine
+nothing_told inbound log s [] (e ∷ es) is none = absurd is
+nothing_told inbound log s (act ∷ acts) es is none = absurd (cc)
 
 module _ (r : RunGrounds) where
   sending_same : (at : ℕ) (items : List WireItem) (machine : State) → SameButMoments (after_sending at items machine) machine
@@ -143,7 +151,8 @@ module _ (r : RunGrounds) where
       let new = (after_ticking at desk).book in
       quiet_on r before start handled old new told.added run (makes_of acts desk (after_ticking at desk) told)
       (acts_keep new.inbound new.outbound (state_of old.entries) acts told.added told.told)
-      (ticks_no_acts new.inbound new.outbound (state_of old.entries) acts told.added told.told (one_tick machine (heart_in machine.phase) at acts (r.ticks machine at)))
+      (λ none. nothing_told new.inbound new.outbound (state_of old.entries) acts told.added told.told (no_tick_off machine at (is.off none)))
+      (ticks_no_acts new.inbound new.outbound (state_of old.entries) acts told.added told.told (one_tick machine (heart_in machine.phase) at acts (r.ticks.one machine at)))
       (r.same.transitive new.machine ticked machine (acts_same at acts (with_outbox (with_machine ticked old) desk.outgoing)) (r.same.symmetric machine ticked (r.same.tick machine at)))
 
   -- the session is bound, and acts follow
@@ -210,7 +219,7 @@ module _ (r : RunGrounds) where
   leases_run : (before : List Entry) (start : State) (handled : List Handled) (old new : Book) → IsRunOver before start handled old → (adds : AddsLeases old.entries new.entries)
       → Makes r old new adds.added → SameButMoments new.machine old.machine → IsRunOver before start handled new
   leases_run before start handled old new run adds makes same =
-      quiet_on r before start handled old new adds.added run makes (leases_keep adds.added adds.leases) (leases_no_acts new.outbound (state_of old.entries) adds.added adds.leases) same
+      quiet_on r before start handled old new adds.added run makes (leases_keep adds.added adds.leases) (λ none. leases_outside adds.added adds.leases) (leases_no_acts new.outbound (state_of old.entries) adds.added adds.leases) same
 
   news_run : (before : List Entry) (start : State) (handled : List Handled) (at : ℕ) (entries : List Entry) (bodies : List (List ℕ)) (desk : Desk) → IsRunOver before start handled desk.book
       → AddsLeases desk.book.entries entries → IsRunOver before start handled (with_news at entries bodies desk).book

@@ -8,3 +8,4 @@ pub mod Spells
 pub mod Runs
 pub mod Texts
 pub mod Sends
+pub mod Moments
