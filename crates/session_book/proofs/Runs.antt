@@ -20,7 +20,7 @@ use Rattle.session_core.specs.declared.acts.Act.{Act}
 use Rattle.session_core.specs.declared.acts.Act.TheVariants.{Accept, Resend, Reset as Restart, Send as SendAct}
 use Rattle.session_core.specs.declared.acts.Admin.{Admin as Message}
 use Rattle.session_book.specs.Book.{Book}
-use Rattle.session_book.specs.Runs.{Handled, IsInside, IsRunOver, IsWithin, StandsBehind, TellEach, TellRuns, bodies_of, handled_of}
+use Rattle.session_book.specs.Runs.{Handled, IsInside, IsRunBegun, IsRunOver, IsWithin, StandsBehind, TellEach, TellRuns, bodies_of, handled_of}
 use Rattle.session_book.specs.Spells.{Placed, Spell, act_entries, is_act, is_act_of, logged_body, new_spell, placed, placed_from, spell_with, spells_behind, spells_from}
 use Rattle.session_book.specs.Told.{IsLogged, TellActs, TellsAct}
 use Rattle.session_book.proofs.Carried.{EntriesStay, tells_on}
@@ -257,6 +257,61 @@ module _ (r : RunGrounds) where
         inside = inside_on before run.added old added run.entries_are run.inside (inside_bound s c added bound keep);
         machine = subst (λ b. StandsBehind b start (past ++ handled_of c later ∷ []) new.machine) (sym (bound_new old new added makes keep ∙ bound))
             (record { past = past; bodies = later; are = refl; same = machine });
+      }
+
+  -- the same where some acts were carried out
+  pub begun_on : (before : List Entry) (start : State) (past : List Handled) (c : ℕ) (bodies later : List (List ℕ)) (done left : List Act) (old new : Book) (added : List Entry)
+      → IsRunOver before start (past ++ handled_of c bodies ∷ []) old → (state_of old.entries).bound ≡ Some c → Makes old new added → All Keeps added
+      → connection_acts (after_connections start (bodies_of past)) later ≡ connection_acts (after_connections start (bodies_of past)) bodies ++ (done ++ left)
+      → TellEach new.inbound new.outbound done (filter (is_act new.outbound) (placed_from (state_of old.entries) added))
+      → IsRunBegun before start (past ++ handled_of c later ∷ []) new
+  begun_on before start past c bodies later done left old new added run bound makes keep acts_are told =
+      let s = state_of old.entries in
+      let m = after_connections start (bodies_of past) in
+      let was = last_run old.inbound old.outbound start past (handled_of c bodies) (spells_behind before run.added) run.told in
+      let more = placed_from s added in
+      record {
+        added = run.added ++ added;
+        entries_are = entries_behind before run.added old new added run.entries_are makes;
+        past = past;
+        last = handled_of c later;
+        handled_are = refl;
+        front = was.front;
+        spell = spell_with more was.last;
+        spells = spells_on before run.added old added run.entries_are ∙ ap (λ found. spells_from found s added) was.are ∙ spells_within was.front was.last s c added bound keep;
+        told = runs_kept old new added start past was.front makes was.past_told;
+        connection = was.connection;
+        done = connection_acts m bodies ++ done;
+        left = left;
+        acts_are = acts_are ∙ sym (append_assoc (connection_acts m bodies) done left);
+        begun = subst (λ ps. TellEach new.inbound new.outbound (connection_acts m bodies ++ done) ps) (sym (acts_with new.outbound more was.last))
+            (each_join new.inbound new.outbound (connection_acts m bodies) done (act_entries new.outbound was.last) (filter (is_act new.outbound) more)
+            (each_kept old new added (connection_acts m bodies) was.last.entries makes was.told) told);
+      }
+
+  pub opening_begun : (before : List Entry) (start : State) (handled : List Handled) (c : ℕ) (bodies : List (List ℕ)) (done left : List Act) (old new : Book) (added : List Entry)
+      → IsRunOver before start handled old → Makes old new (Bind c ∷ added) → All Keeps added
+      → connection_acts (after_connections start (bodies_of handled)) bodies ≡ done ++ left
+      → TellEach new.inbound new.outbound done (filter (is_act new.outbound) (placed_from (state_after (state_of old.entries) (Bind c)) added))
+      → IsRunBegun before start (handled ++ handled_of c bodies ∷ []) new
+  opening_begun before start handled c bodies done left old new added run makes keep acts_are told =
+      let t = state_after (state_of old.entries) (Bind c) in
+      let more = placed_from t added in
+      record {
+        added = run.added ++ (Bind c ∷ added);
+        entries_are = entries_behind before run.added old new (Bind c ∷ added) run.entries_are makes;
+        past = handled;
+        last = handled_of c bodies;
+        handled_are = refl;
+        front = spells_behind before run.added;
+        spell = spell_with more (new_spell c);
+        spells = spells_on before run.added old (Bind c ∷ added) run.entries_are ∙ spells_within (spells_behind before run.added) (new_spell c) t c added refl keep;
+        told = runs_kept old new (Bind c ∷ added) start handled (spells_behind before run.added) makes run.told;
+        connection = refl;
+        done = done;
+        left = left;
+        acts_are = acts_are;
+        begun = subst (λ ps. TellEach new.inbound new.outbound done ps) (sym (acts_with new.outbound more (new_spell c))) told;
       }
 
   -- on a session that is bound to no connection

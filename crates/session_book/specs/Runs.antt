@@ -76,3 +76,20 @@ pub record IsRunOver (before : List Entry) (start : State) (handled : List Handl
   pub told : TellRuns book.inbound book.outbound start handled (spells_behind before added)
   pub inside : All IsInside (placed_from (state_of before) added)
   pub machine : StandsBehind (state_of book.entries).bound start handled book.machine
+
+-- The same where memory was wanting: of the last connection a beginning of the acts is told, and of those before it all.
+pub record IsRunBegun (before : List Entry) (start : State) (handled : List Handled) (book : Book) : Type 0 where
+  pub added : List Entry
+  pub entries_are : book.entries ≡ before ++ added
+  pub past : List Handled
+  pub last : Handled
+  pub handled_are : handled ≡ past ++ last ∷ []
+  pub front : List Spell
+  pub spell : Spell
+  pub spells : spells_behind before added ≡ front ++ spell ∷ []
+  pub told : TellRuns book.inbound book.outbound start past front
+  pub connection : spell.connection ≡ last.connection
+  pub done : List Act
+  pub left : List Act
+  pub acts_are : connection_acts (after_connections start (bodies_of past)) last.bodies ≡ done ++ left
+  pub begun : TellEach book.inbound book.outbound done (act_entries book.outbound spell)

@@ -7,14 +7,14 @@ ghost use Rattle.resend_plan.specs.Wire.{NamesEntry};
 ghost use Rattle.resend_plan.specs.declared.item.Names2.{Names2};
 ghost use Rattle.resend_plan.specs.declared.item.WireItem.{WireItem};
 ghost use Rattle.lease_core.specs.State.{state_of};
-ghost use Rattle.session_book.specs.Acts.{after_binding, after_dial, after_end, after_lapse, after_message, after_request, after_ticking};
-ghost use Rattle.session_book.specs.Book.{Book, Desk, with_event, with_outbox};
+ghost use Rattle.session_book.specs.Acts.{IsBegun, after_binding, after_dial, after_end, after_lapse, after_message, after_request, after_ticking};
+ghost use Rattle.session_book.specs.Book.{Book, Desk, with_event, with_machine, with_outbox};
 ghost use Rattle.session_book.specs.Items.{QueuesWhatIsTold};
 ghost use Rattle.lease_core.specs.declared.word.Word.{Word};
 ghost use Rattle.session_book.specs.Kept.{IsBook};
 ghost use Rattle.session_book.specs.Moments.{IsTimedRun};
 ghost use Rattle.session_core.specs.declared.phases.Phase.TheVariants as Phase;
-ghost use Rattle.session_book.specs.Runs.{Handled, IsRunOver, handled_of, with_body};
+ghost use Rattle.session_book.specs.Runs.{Handled, IsRunBegun, IsRunOver, handled_of, with_body};
 ghost use Rattle.lease_core.specs.declared.entry.Entry.{Entry};
 ghost use Rattle.lease_core.specs.declared.entry.Entry.TheVariants.{Admin, Arrive, Bind};
 ghost use Rattle.session_core.specs.State.{IsState, State};
@@ -23,9 +23,9 @@ ghost use Rattle.message_log.specs.declared.entry.OutEntry.{OutEntry};
 ghost use Rattle.session_book.specs.Texts.{IsTextOf, outbound_text};
 ghost use Rattle.session_book.specs.Told.{CarriesOut};
 ghost use Rattle.lease_core.specs.declared.event.Event.TheVariants.{Binds};
-ghost use Rattle.session_core.specs.Ask.{ask};
-ghost use Rattle.session_core.specs.Receive.{receive};
-ghost use Rattle.session_core.specs.Tick.{tick};
+ghost use Rattle.session_core.specs.Ask.{after_ask, ask};
+ghost use Rattle.session_core.specs.Receive.{after_receive, receive};
+ghost use Rattle.session_core.specs.Tick.{after_tick, tick};
 ghost use Rattle.session_book.specs.Words.{after_timeout, after_word, shown_sends};
 
 use connection_core::{items_have_text, items_stay_queued};
@@ -106,6 +106,36 @@ pub fn runs_are_told()
         → IsRunOver before start handled book → IsRunOver before start handled (after_request library nr from book) }
     ensures lapse { (before : List Entry) (start : State) (handled : List Handled) (book : Book)
         → IsRunOver before start handled book → IsRunOver before start handled (after_lapse book) }
+{
+    entries_decide_one_by_one();
+    entries_stay();
+    logs_go_on();
+    moments_dont_matter();
+    runs_in_parts();
+    sameness_laws();
+    texts_of_messages();
+    acts_of_messages();
+    acts_of_ticks();
+    items_stay();
+    plans_answer();
+}
+
+/// Where memory was wanting the journal tells of a beginning of the acts.
+pub fn runs_are_begun()
+    ensures bind { (before : List Entry) (start : State) (handled : List Handled) (c at : ℕ) (body : List ℕ) (desk new : Desk) → IsBook desk.book → IsState desk.book.machine
+        → (state_of desk.book.entries).bound ≡ None → desk.book.machine.dials ≡ None
+        → IsBegun at (receive desk.book.machine body at).acts (with_outbox (with_machine (after_receive desk.book.machine body at) (with_event (Binds c) desk.book)) desk.outgoing) new
+        → IsRunOver before start handled desk.book → IsRunBegun before start (handled ++ handled_of c (body ∷ []) ∷ []) new.book }
+    ensures dial { (before : List Entry) (start : State) (handled : List Handled) (c at : ℕ) (desk new : Desk) → IsBook desk.book → (state_of desk.book.entries).bound ≡ None
+        → IsBegun at (ask desk.book.machine).acts (with_outbox (with_machine (after_ask desk.book.machine at) (with_event (Binds c) desk.book)) desk.outgoing) new
+        → IsRunOver before start handled desk.book → IsRunBegun before start (handled ++ handled_of c [] ∷ []) new.book }
+    ensures message { (before : List Entry) (start : State) (handled : List Handled) (c at : ℕ) (body : List ℕ) (desk new : Desk) → IsBook desk.book → IsState desk.book.machine → (state_of desk.book.entries).bound ≡ Some c
+        → IsBegun at (receive desk.book.machine body at).acts (with_outbox (with_machine (after_receive desk.book.machine body at) desk.book) desk.outgoing) new
+        → IsRunOver before start handled desk.book → IsRunBegun before start (with_body body handled) new.book }
+    // What the clock asks for tells of no act, in part or whole.
+    ensures tick { (before : List Entry) (start : State) (handled : List Handled) (at : ℕ) (desk new : Desk) → IsBook desk.book
+        → IsBegun at (tick desk.book.machine at).acts (with_outbox (with_machine (after_tick desk.book.machine at) desk.book) desk.outgoing) new
+        → IsRunOver before start handled desk.book → IsRunOver before start handled new.book }
 {
     entries_decide_one_by_one();
     entries_stay();
