@@ -244,6 +244,11 @@ impl Connection {
         ensures out { self.new ≡ record self.old { out = self.new.out } }
         ensures answered { self.old.answered ≡ true → OnOk result (self.new.out.outgoing ≡ after_preparing names.now log.now.series limit self.old.out.outgoing) }
         ensures unanswered { self.old.answered ≡ false → OnOk result (self.new.out.outgoing ≡ after_preparing_first names.now log.now.series self.old.out.outgoing) }
+        // Without memory no text is made that wasn't asked for: before the answer none at all, and behind it
+        // what is made comes to the same once it is done again.
+        ensures unanswered_err { self.old.answered ≡ false → OnErr result (self.new.out.outgoing ≡ self.old.out.outgoing) }
+        ensures again { self.old.answered ≡ true
+            → after_preparing names.now log.now.series limit self.new.out.outgoing ≡ after_preparing names.now log.now.series limit self.old.out.outgoing }
         ensures enough { self.old.answered ≡ true
             → OnOk result ((limit ≤ length (waiting_text self.new.out.outgoing)) ⊎ (self.new.out.outgoing.unmade ≡ [])) }
         ensures more { HasMore names.now log.now.series self.old.out.outgoing self.new.out.outgoing }

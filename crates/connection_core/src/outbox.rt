@@ -114,6 +114,8 @@ impl Outbox {
         ensures outgoing { OnOk result (self.new.outgoing ≡ after_preparing names.now log.now.series limit self.old.outgoing) }
         ensures enough { OnOk result ((limit ≤ length (waiting_text self.new.outgoing)) ⊎ (self.new.outgoing.unmade ≡ [])) }
         ensures more { HasMore names.now log.now.series self.old.outgoing self.new.outgoing }
+        // Done again it comes to the same, so that also without memory no text is made that wasn't asked for.
+        ensures again { after_preparing names.now log.now.series limit self.new.outgoing ≡ after_preparing names.now log.now.series limit self.old.outgoing }
         ensures spare { self.old.spare ≤ self.new.spare }
         ensures items { (items : List WireItem) → AreItemsOf names.now log.now.series items self.old.outgoing
             → AreItemsOf names.now log.now.series items self.new.outgoing }

@@ -44,12 +44,13 @@ pub enum Act {
     // A request from a position on that is granted, with the poll of that.
     Hold(u64),
     // Many of one kind: requests of the numbers to this one, each refused; words that all is done;
-    // sends; bodies of so many bytes that are sent; messages that arrive and are published; and
-    // polls of the log's messages from one position to before another.
+    // sends; bodies of so many bytes that are sent, of one field or of none; messages that arrive
+    // and are published; and polls of the log's messages from one position to before another.
     Requests(u32),
     Dones(u32),
     Sends(u32),
     SendLong(usize),
+    SendNoise(usize),
     TakeLong(usize),
     Arrivals(u64),
     Reads(u64, u64),
@@ -232,6 +233,10 @@ fn play(
         Act::Sends(count) => made(many::sends(alloc, library, count)?),
         Act::SendLong(length) => {
             let body = many::long_body(alloc, length)?;
+            return send(alloc, library, 0, body.as_slice());
+        }
+        Act::SendNoise(length) => {
+            let body = vec![in alloc; b'x'; length]?;
             return send(alloc, library, 0, body.as_slice());
         }
         Act::TakeLong(length) => take(engine, many::long_body(alloc, length)?.as_slice()),

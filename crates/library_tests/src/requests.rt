@@ -86,6 +86,23 @@ fn a_full_ring_takes_no_request(rt: HostRuntime) -> Result<(), Fail> {
 }
 
 #[test]
+fn an_open_request_comes_before_a_full_ring(rt: HostRuntime) -> Result<(), Fail> {
+    let full = AskError::RingFull {
+        pushed: 256,
+        taken: 0,
+    };
+    let rows = [
+        (Act::Dones(255), Answer::Made),
+        (Act::Request(0, 0), Answer::Nr(1)),
+        (Act::Request(0, 0), outstanding(1)),
+        (Act::TellRefused(1, 0, OWNED), Answer::Made),
+        (Act::Poll, refused(1, 0, OWNED)),
+        (Act::Request(0, 0), Answer::NotAsked(full)),
+    ];
+    follow(&rt, rt.alloc(), &rows)
+}
+
+#[test]
 fn a_session_that_is_not_configured_is_refused(rt: HostRuntime) -> Result<(), Fail> {
     for s in [1, 63, 64, 65_535] {
         let why = Why::UnknownSession { s };

@@ -80,6 +80,9 @@ fn a_body_has_at_most_8192_bytes(rt: HostRuntime) -> Result<(), Fail> {
         looks(1),
         (Act::TakeLong(8_192), Answer::Lease(1)),
         (Act::SendLong(20_000), too_long(20_000)),
+        // Too many bytes come before what is wrong with them.
+        (Act::SendNoise(8_193), too_long(8_193)),
+        (Act::SendNoise(8_192), bad(0)),
     ];
     follow(&rt, rt.alloc(), &rows)
 }
@@ -153,6 +156,20 @@ fn a_full_lane_comes_before_a_spent_lease(rt: HostRuntime) -> Result<(), Fail> {
         (Act::Send(0, SECOND), spent(16)),
     ];
     follow_with(&rt, rt.alloc(), 9, 16, 256, &rows)
+}
+
+#[test]
+fn a_spent_lease_comes_before_a_lost_one(rt: HostRuntime) -> Result<(), Fail> {
+    let rows = [
+        (Act::Hold(0), Answer::Lease(1)),
+        (Act::Sends(2), Answer::Made),
+        (Act::Revoke, Answer::Shows(word(Standing::Active, 2), true)),
+        (Act::Send(0, SECOND), spent(2)),
+        (Act::Take(FIRST), Answer::Lease(1)),
+        (Act::Take(FIRST), Answer::Lease(1)),
+        (Act::Send(0, SECOND), spent(2)),
+    ];
+    follow_with(&rt, rt.alloc(), 9, 2, 256, &rows)
 }
 
 #[test]

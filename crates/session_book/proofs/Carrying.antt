@@ -84,7 +84,7 @@ weaker P Q to [] all = All-nil Q
 weaker P Q to (act ∷ acts) all = All-cons Q act acts (to act (All-head P act acts all)) (weaker P Q to acts (All-tail P act acts all))
 
 -- nothing is due on a session that is off
-no_tick_off : (machine : State) (at : ℕ) → machine.phase ≡ Off → (tick machine at).acts ≡ []
+pub no_tick_off : (machine : State) (at : ℕ) → machine.phase ≡ Off → (tick machine at).acts ≡ []
 unfolding tick_of
 no_tick_off machine at off = ap (λ (phase : Phase). (effects_at machine (tick_in machine at phase)).acts) off
 

@@ -18,10 +18,12 @@ use Rattle.lease_core.specs.declared.word.Word.{Word}
 use Rattle.message_log.specs.Growth.{GoesOn}
 use Rattle.message_log.specs.Series.{with_entry}
 use Rattle.message_log.specs.declared.entry.OutEntry.{OutEntry}
+use Rattle.session_book.specs.Moments.{is_beat_by}
 use Rattle.session_book.specs.Spells.{is_act, is_act_of, placed, placed_from}
 use Rattle.session_book.specs.Words.{sent_entry, with_sends}
+use Rattle.session_book.proofs.Moments.{NoBeat}
 use Rattle.session_book.proofs.Runs.{filter_no}
-use Rattle.session_book.proofs.Spells.{Keeps}
+use Rattle.session_book.proofs.Spells.{Keeps, NoMachine}
 use Rattle.session_book.proofs.Telling.{Grounds}
 
 abbrev is_lease : Entry → Bool
@@ -77,6 +79,47 @@ leases_no_acts log s [] are = refl
 leases_no_acts log s (e ∷ es) are =
     filter_no (is_act log) (placed s e) (placed_from (state_after s e) es) (lease_no_act log s e (All-head IsLease e es are))
     ∙ leases_no_acts log (state_after s e) es (All-tail IsLease e es are)
+
+lease_no_beat : (log : List (List OutEntry)) (s : Totals) (e : Entry) → IsLease e → is_beat_by log s e ≡ false
+lease_no_beat log s (Arrive pos) is = refl
+lease_no_beat log s (Admin number) is = absurd (false≢true is)
+lease_no_beat log s (Bind c) is = refl
+lease_no_beat log s (Plan begin last at) is = refl
+lease_no_beat log s (Leave c) is = refl
+lease_no_beat log s (Reset series) is = refl
+lease_no_beat log s (Granted library nr lease from start) is = refl
+lease_no_beat log s (Refused library nr why) is = refl
+lease_no_beat log s (Send lease library ordinal number) is = refl
+lease_no_beat log s (Release lease library count heir) is = refl
+lease_no_beat log s (Timeout lease library count) is = refl
+lease_no_beat log s (Hold lease until) is = refl
+lease_no_beat log s (Lapse lease) is = refl
+
+-- nor a Heartbeat
+pub leases_no_beats : (log : List (List OutEntry)) (s : Totals) (es : List Entry) → All IsLease es → All (NoBeat log) (placed_from s es)
+leases_no_beats log s [] are = All-nil _
+leases_no_beats log s (e ∷ es) are =
+    All-cons (NoBeat log) (placed s e) (placed_from (state_after s e) es) (lease_no_beat log s e (All-head IsLease e es are)) (leases_no_beats log (state_after s e) es (All-tail IsLease e es are))
+
+lease_outside : (e : Entry) → IsLease e → NoMachine e
+lease_outside (Arrive pos) is = absurd (false≢true is)
+lease_outside (Admin number) is = absurd (false≢true is)
+lease_outside (Bind c) is = refl
+lease_outside (Plan begin last at) is = absurd (false≢true is)
+lease_outside (Leave c) is = refl
+lease_outside (Reset series) is = absurd (false≢true is)
+lease_outside (Granted library nr lease from start) is = refl
+lease_outside (Refused library nr why) is = refl
+lease_outside (Send lease library ordinal number) is = refl
+lease_outside (Release lease library count heir) is = refl
+lease_outside (Timeout lease library count) is = refl
+lease_outside (Hold lease until) is = refl
+lease_outside (Lapse lease) is = refl
+
+-- the session machine doesn't ask for them
+pub leases_outside : (es : List Entry) → All IsLease es → All NoMachine es
+leases_outside [] are = All-nil NoMachine
+leases_outside (e ∷ es) are = All-cons NoMachine e es (lease_outside e (All-head IsLease e es are)) (leases_outside es (All-tail IsLease e es are))
 
 pub reply_is_lease : (library nr from : ℕ) (reply : Reply) → IsLease (entry_with library nr from reply)
 reply_is_lease library nr from (ToGranted lease start) = refl

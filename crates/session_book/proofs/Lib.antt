@@ -11,6 +11,11 @@ pub mod TextRuns
 pub mod TextEvents
 pub mod SendRuns
 pub mod SendEvents
+pub mod Moments
+pub mod MomentRuns
+pub mod MomentActs
+pub mod MomentEvents
+pub mod Wrong
 pub mod ReadingBack
 pub mod Handing
 pub mod RoundTrip

@@ -23,17 +23,18 @@ use Rattle.session_core.specs.Tick.{after_tick, tick}
 use Rattle.session_core.specs.declared.acts.Act.{Act}
 use Rattle.session_core.specs.declared.acts.Act.TheVariants.{Accept, Resend, Reset as Restart, Send as SendAct}
 use Rattle.session_core.specs.declared.acts.Effects.{Effects}
-use Rattle.session_book.specs.Acts.{after_act, after_acts, after_binding, after_dial, after_end, after_lapse, after_message, after_request, after_ticking, next_item, plan_items}
+use Rattle.session_book.specs.Acts.{IsBegun, after_act, after_acts, after_binding, after_dial, after_end, after_lapse, after_message, after_request, after_ticking, next_item, plan_items}
 use Rattle.session_book.specs.Book.{Book, Desk, after_sending, with_event, with_machine, with_outbox}
 use Rattle.session_book.specs.Kept.{IsBook}
-use Rattle.session_book.specs.Runs.{Handled, IsRunOver, IsWithin, StandsBehind, TellEach, bodies_of, handled_of, with_body}
+use Rattle.session_book.specs.Runs.{Handled, IsInside, IsRunBegun, IsRunOver, IsWithin, StandsBehind, TellEach, bodies_of, handled_of, with_body}
 use Rattle.session_book.specs.Spells.{is_act, is_act_of, placed, placed_from}
 use Rattle.session_book.specs.Told.{CarriesOut, TellActs, TellsAct}
 use Rattle.session_book.specs.Words.{after_timeout, after_word, send_items, with_news}
 use Rattle.session_book.proofs.Carried.{bound_with, carried_with}
-use Rattle.session_book.proofs.LeaseEntries.{AddsLeases, adds_one, adds_shown, adds_timed, leases_keep, leases_no_acts, reply_is_lease, sends_go_on}
-use Rattle.session_book.proofs.Runs.{Makes, RunGrounds, acts_keep, body_logged, closed_on, filter_no, opened_on, quiet_on, told_each, within_on}
-use Rattle.session_book.proofs.Spells.{changed_last}
+use Rattle.session_book.proofs.LeaseEntries.{AddsLeases, adds_one, adds_shown, adds_timed, leases_keep, leases_no_acts, leases_outside, reply_is_lease, sends_go_on}
+use Rattle.session_book.proofs.Runs.{Makes, RunGrounds, acts_keep, begun_on, body_logged, closed_on, filter_no, opened_on, opening_begun, quiet_on, told_each, within_on}
+use Rattle.session_book.proofs.Carrying.{no_tick_off}
+use Rattle.session_book.proofs.Spells.{NoMachine, changed_last}
 
 abbrev NoTick : Act → Type 0
 NoTick act = is_tick_act act ≡ false
@@ -46,7 +47,7 @@ one_tick state heart m acts (inl none) = subst (λ found. All IsTick found) (sym
 one_tick state heart m acts (inr (inl test)) = subst (λ found. All IsTick found) (sym test) (All-cons IsTick _ [] refl (All-nil IsTick))
 one_tick state heart m acts (inr (inr beat)) = subst (λ found. All IsTick found) (sym beat.0) (All-cons IsTick _ [] refl (All-nil IsTick))
 
-ask_no_tick : (dials : Option ℕ) → All NoTick (logon_effects dials).acts
+pub ask_no_tick : (dials : Option ℕ) → All NoTick (logon_effects dials).acts
 ask_no_tick None = All-nil NoTick
 ask_no_tick (Some heart) = All-cons NoTick _ [] refl (All-nil NoTick)
 
@@ -56,8 +57,19 @@ first_run book none same = record {
   added = [];
   entries_are = sym (append-nil book.entries);
   told = tt;
+  inside = All-nil IsInside;
   machine = subst (λ b. StandsBehind b book.machine [] book.machine) (sym none) (same book.machine);
 }
+
+-- where no act is asked for no entry comes
+nothing_told : (inbound : List (List ℕ)) (log : List (List OutEntry)) (s : Totals) (acts : List Act) (es : List Entry) → TellActs inbound log s acts es → acts ≡ [] → All NoMachine es
+nothing_told inbound log s [] [] is none = All-nil NoMachine
+nothing_told inbound log s [] (e ∷ es) is none = absurd is
+nothing_told inbound log s (act ∷ acts) es is none = absurd (cc)
+
+first_nothing : (first second : List Act) → first ++ second ≡ [] → first ≡ []
+first_nothing [] second none = refl
+first_nothing (act ∷ first) second none = absurd (cc)
 
 module _ (r : RunGrounds) where
   sending_same : (at : ℕ) (items : List WireItem) (machine : State) → SameButMoments (after_sending at items machine) machine
@@ -80,6 +92,15 @@ module _ (r : RunGrounds) where
   pub makes_of : (acts : List Act) (old new : Desk) (told : CarriesOut acts old new) → Makes r old.book new.book told.added
   makes_of acts old new told = record { entries_are = told.entries_are; more = told.more; inbound = told.inbound; outbound = told.outbound }
 
+  -- the acts of one message more
+  message_acts : (at : ℕ) (body : List ℕ) (machine m : State) (bodies : List (List ℕ)) → SameButMoments machine (behind_all (after_ask m 0) bodies)
+      → connection_acts m (bodies ++ body ∷ []) ≡ connection_acts m bodies ++ (receive machine body at).acts
+  message_acts at body machine m bodies same =
+      let last = behind_all (after_ask m 0) bodies in
+      ap (λ found. (ask m).acts ++ found) (r.parts.acts (after_ask m 0) bodies (body ∷ []))
+      ∙ ap (λ found. (ask m).acts ++ (acts_on (after_ask m 0) bodies ++ found)) (append-nil (receive last body 0).acts ∙ ap (λ (e : Effects). e.acts) (sym (r.moments machine last body at 0 same)))
+      ∙ sym (append_assoc (ask m).acts (acts_on (after_ask m 0) bodies) (receive machine body at).acts)
+
   pub message_run : (before : List Entry) (start : State) (handled : List Handled) (c at : ℕ) (body : List ℕ) (desk : Desk) → IsBook desk.book → IsState desk.book.machine
       → (state_of desk.book.entries).bound ≡ Some c → IsRunOver before start handled desk.book
       → IsRunOver before start (with_body body handled) (after_message at body desk).book
@@ -94,11 +115,7 @@ module _ (r : RunGrounds) where
       let heard = after_receive machine body at in
       let told = carried_with r.logs r.stay at effects.acts heard desk is in
       let new = (after_message at body desk).book in
-      let same_effects : effects ≡ receive last body 0 = r.moments machine last body at 0 stood.same in
-      let acts_are : connection_acts m later ≡ connection_acts m stood.bodies ++ effects.acts =
-      ap (λ found. (ask m).acts ++ found) (r.parts.acts (after_ask m 0) stood.bodies (body ∷ []))
-      ∙ ap (λ found. (ask m).acts ++ (acts_on (after_ask m 0) stood.bodies ++ found)) (append-nil (receive last body 0).acts ∙ ap (λ (e : Effects). e.acts) (sym same_effects))
-      ∙ sym (append_assoc (ask m).acts (acts_on (after_ask m 0) stood.bodies) effects.acts) in
+      let acts_are = message_acts at body machine m stood.bodies stood.same in
       let machine_new : SameButMoments new.machine (behind_all (after_ask m 0) later) =
       r.same.transitive new.machine heard (behind_all (after_ask m 0) later)
       (acts_same at effects.acts (with_outbox (with_machine heard old) desk.outgoing))
@@ -143,7 +160,8 @@ module _ (r : RunGrounds) where
       let new = (after_ticking at desk).book in
       quiet_on r before start handled old new told.added run (makes_of acts desk (after_ticking at desk) told)
       (acts_keep new.inbound new.outbound (state_of old.entries) acts told.added told.told)
-      (ticks_no_acts new.inbound new.outbound (state_of old.entries) acts told.added told.told (one_tick machine (heart_in machine.phase) at acts (r.ticks machine at)))
+      (λ none. nothing_told new.inbound new.outbound (state_of old.entries) acts told.added told.told (no_tick_off machine at (is.off none)))
+      (ticks_no_acts new.inbound new.outbound (state_of old.entries) acts told.added told.told (one_tick machine (heart_in machine.phase) at acts (r.ticks.one machine at)))
       (r.same.transitive new.machine ticked machine (acts_same at acts (with_outbox (with_machine ticked old) desk.outgoing)) (r.same.symmetric machine ticked (r.same.tick machine at)))
 
   -- the session is bound, and acts follow
@@ -182,6 +200,13 @@ module _ (r : RunGrounds) where
       let acts_are : connection_acts m [] ≡ (ask machine).acts = append-nil (ask m).acts ∙ ap (λ dials. (logon_effects dials).acts) (sym stood.dials) in
       opened_run before start handled c at [] (ask machine).acts (after_ask machine at) desk is run (ask_no_tick machine.dials) acts_are (r.same.ask machine m at 0 stood)
 
+  binding_acts : (at : ℕ) (body : List ℕ) (machine m : State) → SameButMoments machine m → m.dials ≡ None → connection_acts m (body ∷ []) ≡ (receive machine body at).acts
+  binding_acts at body machine m same dials =
+      ap (λ d. (logon_effects d).acts ++ acts_on (after_ask m 0) (body ∷ [])) dials
+      ∙ append-nil (receive (after_ask m 0) body 0).acts
+      ∙ ap (λ state. (receive state body 0).acts) (ap (λ d. after_logon m 0 d) dials)
+      ∙ ap (λ (e : Effects). e.acts) (sym (r.moments machine m body at 0 same))
+
   pub binding_run : (before : List Entry) (start : State) (handled : List Handled) (c at : ℕ) (body : List ℕ) (desk : Desk) → IsBook desk.book → IsState desk.book.machine
       → (state_of desk.book.entries).bound ≡ None → desk.book.machine.dials ≡ None → IsRunOver before start handled desk.book
       → IsRunOver before start (handled ++ handled_of c (body ∷ []) ∷ []) (after_binding at c body desk).book
@@ -191,11 +216,7 @@ module _ (r : RunGrounds) where
       let stood = stood_behind before start handled desk.book none run in
       let dials : m.dials ≡ None = sym stood.dials ∙ accepts in
       let no_ask : after_ask m 0 ≡ m = ap (λ d. after_logon m 0 d) dials in
-      let acts_are : connection_acts m (body ∷ []) ≡ (receive machine body at).acts =
-      ap (λ d. (logon_effects d).acts ++ acts_on (after_ask m 0) (body ∷ [])) dials
-      ∙ append-nil (receive (after_ask m 0) body 0).acts
-      ∙ ap (λ state. (receive state body 0).acts) no_ask
-      ∙ ap (λ (e : Effects). e.acts) (sym (r.moments machine m body at 0 stood)) in
+      let acts_are = binding_acts at body machine m stood dials in
       opened_run before start handled c at (body ∷ []) (receive machine body at).acts (after_receive machine body at) desk is run (r.acts machine body at lawful).no_tick acts_are
       (subst (λ state. SameButMoments (after_receive machine body at) (behind_all state (body ∷ []))) (sym no_ask) (r.same.receive machine m body at 0 stood))
 
@@ -210,7 +231,7 @@ module _ (r : RunGrounds) where
   leases_run : (before : List Entry) (start : State) (handled : List Handled) (old new : Book) → IsRunOver before start handled old → (adds : AddsLeases old.entries new.entries)
       → Makes r old new adds.added → SameButMoments new.machine old.machine → IsRunOver before start handled new
   leases_run before start handled old new run adds makes same =
-      quiet_on r before start handled old new adds.added run makes (leases_keep adds.added adds.leases) (leases_no_acts new.outbound (state_of old.entries) adds.added adds.leases) same
+      quiet_on r before start handled old new adds.added run makes (leases_keep adds.added adds.leases) (λ none. leases_outside adds.added adds.leases) (leases_no_acts new.outbound (state_of old.entries) adds.added adds.leases) same
 
   news_run : (before : List Entry) (start : State) (handled : List Handled) (at : ℕ) (entries : List Entry) (bodies : List (List ℕ)) (desk : Desk) → IsRunOver before start handled desk.book
       → AddsLeases desk.book.entries entries → IsRunOver before start handled (with_news at entries bodies desk).book
@@ -242,3 +263,94 @@ module _ (r : RunGrounds) where
       leases_run before start handled book (after_lapse book) run adds
       (record { entries_are = adds.are; more = []; inbound = sym (append-nil book.inbound); outbound = r.logs.itself book.outbound })
       (r.same.reflexive book.machine)
+
+  -- where memory was wanting
+  first_all : (P : Act → Type 0) (first second : List Act) → All P (first ++ second) → All P first
+  first_all P [] second all = All-nil P
+  first_all P (act ∷ first) second all = All-cons P act first (All-head P act (first ++ second) all) (first_all P first second (All-tail P act (first ++ second) all))
+
+  pub message_begun : (before : List Entry) (start : State) (handled : List Handled) (c at : ℕ) (body : List ℕ) (desk new : Desk) → IsBook desk.book → IsState desk.book.machine
+      → (state_of desk.book.entries).bound ≡ Some c → IsBegun at (receive desk.book.machine body at).acts (with_outbox (with_machine (after_receive desk.book.machine body at) desk.book) desk.outgoing) new
+      → IsRunOver before start handled desk.book → IsRunBegun before start (with_body body handled) new.book
+  message_begun before start handled c at body desk new is lawful bound begun run =
+      let old = desk.book in
+      let machine = old.machine in
+      let stood : IsWithin start handled c machine = subst (λ b. StandsBehind b start handled machine) bound run.machine in
+      let m = after_connections start (bodies_of stood.past) in
+      let later = stood.bodies ++ body ∷ [] in
+      let acts = (receive machine body at).acts in
+      let heard = after_receive machine body at in
+      let behind = after_acts at begun.done (with_outbox (with_machine heard old) desk.outgoing) in
+      let told = carried_with r.logs r.stay at begun.done heard desk is in
+      let none = first_all NoTick begun.done begun.left (subst (All NoTick) begun.acts_are (r.acts machine body at lawful).no_tick) in
+      let acts_are = message_acts at body machine m stood.bodies stood.same ∙ ap (λ found. connection_acts m stood.bodies ++ found) begun.acts_are in
+      let handled_is : with_body body handled ≡ stood.past ++ handled_of c later ∷ [] =
+      ap (with_body body) stood.are ∙ changed_last (λ (h : Handled). record h { bodies = h.bodies ++ body ∷ [] }) stood.past (handled_of c stood.bodies) in
+      subst (λ (d : Desk). IsRunBegun before start (with_body body handled) d.book) (sym begun.new_is)
+      (subst (λ hs. IsRunBegun before start hs behind.book) (sym handled_is)
+      (begun_on r before start stood.past c stood.bodies later begun.done begun.left old behind.book told.added
+      (subst (λ hs. IsRunOver before start hs old) stood.are run) bound
+      (makes_of begun.done desk behind told)
+      (acts_keep behind.book.inbound behind.book.outbound (state_of old.entries) begun.done told.added told.told)
+      acts_are
+      (told_each r behind.book.inbound behind.book.outbound (state_of old.entries) begun.done told.added told.told none)))
+
+  -- the session is bound, and some acts follow
+  opened_begun : (before : List Entry) (start : State) (handled : List Handled) (c at : ℕ) (bodies : List (List ℕ)) (acts : List Act) (machine : State) (desk new : Desk) → IsBook desk.book
+      → IsRunOver before start handled desk.book → All NoTick acts → connection_acts (after_connections start (bodies_of handled)) bodies ≡ acts
+      → IsBegun at acts (with_outbox (with_machine machine (with_event (Binds c) desk.book)) desk.outgoing) new
+      → IsRunBegun before start (handled ++ handled_of c bodies ∷ []) new.book
+  opened_begun before start handled c at bodies acts machine desk new is run fails acts_are begun =
+      let old = desk.book in
+      let s = state_of old.entries in
+      let behind = after_acts at begun.done (with_outbox (with_machine machine (with_event (Binds c) old)) desk.outgoing) in
+      let told = bound_with r.logs r.stay c at begun.done machine desk is in
+      let log = behind.book.outbound in
+      let told_on : TellActs behind.book.inbound log (state_after s (Bind c)) begun.done told.added =
+      subst (λ t. TellActs behind.book.inbound log t begun.done told.added) (r.logs.decide old.entries (Bind c)) told.told in
+      subst (λ (d : Desk). IsRunBegun before start (handled ++ handled_of c bodies ∷ []) d.book) (sym begun.new_is)
+      (opening_begun r before start handled c bodies begun.done begun.left old behind.book told.added run
+      (record { entries_are = told.entries_are ∙ append_assoc old.entries (Bind c ∷ []) told.added; more = told.more; inbound = told.inbound; outbound = told.outbound })
+      (acts_keep behind.book.inbound log (state_after s (Bind c)) begun.done told.added told_on)
+      (acts_are ∙ begun.acts_are)
+      (told_each r behind.book.inbound log (state_after s (Bind c)) begun.done told.added told_on (first_all NoTick begun.done begun.left (subst (All NoTick) begun.acts_are fails))))
+
+  pub binding_begun : (before : List Entry) (start : State) (handled : List Handled) (c at : ℕ) (body : List ℕ) (desk new : Desk) → IsBook desk.book → IsState desk.book.machine
+      → (state_of desk.book.entries).bound ≡ None → desk.book.machine.dials ≡ None
+      → IsBegun at (receive desk.book.machine body at).acts (with_outbox (with_machine (after_receive desk.book.machine body at) (with_event (Binds c) desk.book)) desk.outgoing) new
+      → IsRunOver before start handled desk.book → IsRunBegun before start (handled ++ handled_of c (body ∷ []) ∷ []) new.book
+  binding_begun before start handled c at body desk new is lawful none accepts begun run =
+      let machine = desk.book.machine in
+      let m = after_connections start (bodies_of handled) in
+      let stood = stood_behind before start handled desk.book none run in
+      opened_begun before start handled c at (body ∷ []) (receive machine body at).acts (after_receive machine body at) desk new is run (r.acts machine body at lawful).no_tick
+      (binding_acts at body machine m stood (sym stood.dials ∙ accepts)) begun
+
+  pub dial_begun : (before : List Entry) (start : State) (handled : List Handled) (c at : ℕ) (desk new : Desk) → IsBook desk.book → (state_of desk.book.entries).bound ≡ None
+      → IsBegun at (ask desk.book.machine).acts (with_outbox (with_machine (after_ask desk.book.machine at) (with_event (Binds c) desk.book)) desk.outgoing) new
+      → IsRunOver before start handled desk.book → IsRunBegun before start (handled ++ handled_of c [] ∷ []) new.book
+  dial_begun before start handled c at desk new is none begun run =
+      let machine = desk.book.machine in
+      let m = after_connections start (bodies_of handled) in
+      let stood = stood_behind before start handled desk.book none run in
+      opened_begun before start handled c at [] (ask machine).acts (after_ask machine at) desk new is run (ask_no_tick machine.dials)
+      (append-nil (ask m).acts ∙ ap (λ dials. (logon_effects dials).acts) (sym stood.dials)) begun
+
+  -- of what the clock asks
+  pub tick_begun : (before : List Entry) (start : State) (handled : List Handled) (at : ℕ) (desk new : Desk) → IsBook desk.book
+      → IsBegun at (tick desk.book.machine at).acts (with_outbox (with_machine (after_tick desk.book.machine at) desk.book) desk.outgoing) new
+      → IsRunOver before start handled desk.book → IsRunOver before start handled new.book
+  tick_begun before start handled at desk new is begun run =
+      let old = desk.book in
+      let machine = old.machine in
+      let ticked = after_tick machine at in
+      let machined = with_outbox (with_machine ticked old) desk.outgoing in
+      let behind = after_acts at begun.done machined in
+      let told = carried_with r.logs r.stay at begun.done ticked desk is in
+      let ticks = one_tick machine (heart_in machine.phase) at (tick machine at).acts (r.ticks.one machine at) in
+      subst (λ (d : Desk). IsRunOver before start handled d.book) (sym begun.new_is)
+      (quiet_on r before start handled old behind.book told.added run (makes_of begun.done desk behind told)
+      (acts_keep behind.book.inbound behind.book.outbound (state_of old.entries) begun.done told.added told.told)
+      (λ none. nothing_told behind.book.inbound behind.book.outbound (state_of old.entries) begun.done told.added told.told (first_nothing begun.done begun.left (sym begun.acts_are ∙ no_tick_off machine at (is.off none))))
+      (ticks_no_acts behind.book.inbound behind.book.outbound (state_of old.entries) begun.done told.added told.told (first_all IsTick begun.done begun.left (subst (All IsTick) begun.acts_are ticks)))
+      (r.same.transitive behind.book.machine ticked machine (acts_same at begun.done machined) (r.same.symmetric machine ticked (r.same.tick machine at))))

@@ -1,9 +1,9 @@
 -- A session's run over its connections goes on with each event.
-use Rattle.std.proofs.Common.{◌≡◌, ℕ, Bool, true, false, not, if◌then◌else◌, List, [], ◌∷◌, ◌++◌, Option, None, Some, IsSome, is_some, unwrap_or, refl, sym, ap, subst, ◌∙◌, append_assoc}
+use Rattle.std.proofs.Common.{◌≡◌, ℕ, Bool, true, false, not, if◌then◌else◌, List, [], ◌∷◌, ◌++◌, Option, None, Some, IsSome, is_some, unwrap_or, refl, sym, ap, subst, ◌∙◌, append_assoc, fold}
 use Rattle.std.specs.List.{All, filter}
 use Rattle.std.proofs.lemmas.Bool.{false≢true}
 use Rattle.std.proofs.lemmas.List.{append-nil, map-append}
-use Rattle.std.proofs.lemmas.List.Elements.{All-cons, All-head, All-nil, All-tail}
+use Rattle.std.proofs.lemmas.List.Elements.{All-append, All-cons, All-head, All-nil, All-tail}
 use Rattle.lease_core.specs.State.{State as Totals, series_of, state_after, state_of}
 use Rattle.lease_core.specs.declared.entry.Entry.{Entry}
 use Rattle.lease_core.specs.declared.entry.Entry.TheVariants.{Arrive, Admin, Bind, Plan, Leave, Reset, Granted, Refused, Send, Release, Timeout, Hold, Lapse}
@@ -20,11 +20,11 @@ use Rattle.session_core.specs.declared.acts.Act.{Act}
 use Rattle.session_core.specs.declared.acts.Act.TheVariants.{Accept, Resend, Reset as Restart, Send as SendAct}
 use Rattle.session_core.specs.declared.acts.Admin.{Admin as Message}
 use Rattle.session_book.specs.Book.{Book}
-use Rattle.session_book.specs.Runs.{Handled, IsRunOver, IsWithin, StandsBehind, TellEach, TellRuns, bodies_of, handled_of}
+use Rattle.session_book.specs.Runs.{Handled, IsInside, IsRunBegun, IsRunOver, IsWithin, StandsBehind, TellEach, TellRuns, bodies_of, handled_of}
 use Rattle.session_book.specs.Spells.{Placed, Spell, act_entries, is_act, is_act_of, logged_body, new_spell, placed, placed_from, spell_with, spells_behind, spells_from}
 use Rattle.session_book.specs.Told.{IsLogged, TellActs, TellsAct}
 use Rattle.session_book.proofs.Carried.{EntriesStay, tells_on}
-use Rattle.session_book.proofs.Spells.{Keeps, acts_with, bound_stays, keeps_bound, spells_join, spells_within, spells_without}
+use Rattle.session_book.proofs.Spells.{Keeps, NoMachine, acts_with, bound_stays, inside_bound, inside_none, keeps_bound, placed_join, spells_join, spells_within, spells_without}
 use Rattle.session_book.proofs.Telling.{Grounds}
 
 -- what is needed of the crates below
@@ -79,15 +79,15 @@ tick_is_logged None e = absurd (false≢true (sym e))
 tick_is_logged (Some entry) e = refl
 
 -- the last of the connections, with what is told of those before it
-record LastRun (inbound : List (List ℕ)) (log : List (List OutEntry)) (machine : State) (past : List Handled) (h : Handled) (spells : List Spell) : Type 0 where
-  front : List Spell
-  last : Spell
-  are : spells ≡ front ++ last ∷ []
-  past_told : TellRuns inbound log machine past front
-  connection : last.connection ≡ h.connection
-  told : TellEach inbound log (connection_acts (after_connections machine (bodies_of past)) h.bodies) (act_entries log last)
+pub record LastRun (inbound : List (List ℕ)) (log : List (List OutEntry)) (machine : State) (past : List Handled) (h : Handled) (spells : List Spell) : Type 0 where
+  pub front : List Spell
+  pub last : Spell
+  pub are : spells ≡ front ++ last ∷ []
+  pub past_told : TellRuns inbound log machine past front
+  pub connection : last.connection ≡ h.connection
+  pub told : TellEach inbound log (connection_acts (after_connections machine (bodies_of past)) h.bodies) (act_entries log last)
 
-last_run : (inbound : List (List ℕ)) (log : List (List OutEntry)) (machine : State) (past : List Handled) (h : Handled) (spells : List Spell)
+pub last_run : (inbound : List (List ℕ)) (log : List (List OutEntry)) (machine : State) (past : List Handled) (h : Handled) (spells : List Spell)
     → TellRuns inbound log machine (past ++ h ∷ []) spells → LastRun inbound log machine past h spells
 last_run inbound log machine [] h [] is = absurd is
 last_run inbound log machine [] h (spell ∷ []) is = record { front = []; last = spell; are = refl; past_told = tt; connection = is.0; told = is.1 }
@@ -217,6 +217,15 @@ module _ (r : RunGrounds) where
       spells_join [] (state_of before) first added
       ∙ ap (λ s. spells_from (spells_behind before first) s added) (sym (r.logs.decide_over before first) ∙ ap state_of (sym are))
 
+  -- what lay inside the spells, and what an event adds
+  inside_on : (before first : List Entry) (old : Book) (added : List Entry) → old.entries ≡ before ++ first → All IsInside (placed_from (state_of before) first) → All IsInside (placed_from (state_of old.entries) added)
+      → All IsInside (placed_from (state_of before) (first ++ added))
+  inside_on before first old added are inside more =
+      let s = state_of before in
+      let t : fold state_after s first ≡ state_of old.entries = sym (r.logs.decide_over before first) ∙ ap state_of (sym are) in
+      subst (All IsInside) (sym (placed_join s first added ∙ ap (λ found. placed_from s first ++ placed_from found added) t))
+      (All-append IsInside (placed_from s first) (placed_from (state_of old.entries) added) inside more)
+
   pub bound_new : (old new : Book) (added : List Entry) → Makes old new added → All Keeps added → (state_of new.entries).bound ≡ (state_of old.entries).bound
   bound_new old new added makes keep = ap (λ es. (state_of es).bound) makes.entries_are ∙ ap (λ s. s.bound) (r.logs.decide_over old.entries added) ∙ bound_stays (state_of old.entries) added keep
 
@@ -245,16 +254,72 @@ module _ (r : RunGrounds) where
         told = subst (λ found. TellRuns new.inbound new.outbound start (past ++ handled_of c later ∷ []) found) (sym spells)
             (join_run new.inbound new.outbound start past (handled_of c later) was.front (spell_with more was.last)
             (runs_kept old new added start past was.front makes was.past_told) was.connection last_told);
+        inside = inside_on before run.added old added run.entries_are run.inside (inside_bound s c added bound keep);
         machine = subst (λ b. StandsBehind b start (past ++ handled_of c later ∷ []) new.machine) (sym (bound_new old new added makes keep ∙ bound))
             (record { past = past; bodies = later; are = refl; same = machine });
       }
 
+  -- the same where some acts were carried out
+  pub begun_on : (before : List Entry) (start : State) (past : List Handled) (c : ℕ) (bodies later : List (List ℕ)) (done left : List Act) (old new : Book) (added : List Entry)
+      → IsRunOver before start (past ++ handled_of c bodies ∷ []) old → (state_of old.entries).bound ≡ Some c → Makes old new added → All Keeps added
+      → connection_acts (after_connections start (bodies_of past)) later ≡ connection_acts (after_connections start (bodies_of past)) bodies ++ (done ++ left)
+      → TellEach new.inbound new.outbound done (filter (is_act new.outbound) (placed_from (state_of old.entries) added))
+      → IsRunBegun before start (past ++ handled_of c later ∷ []) new
+  begun_on before start past c bodies later done left old new added run bound makes keep acts_are told =
+      let s = state_of old.entries in
+      let m = after_connections start (bodies_of past) in
+      let was = last_run old.inbound old.outbound start past (handled_of c bodies) (spells_behind before run.added) run.told in
+      let more = placed_from s added in
+      record {
+        added = run.added ++ added;
+        entries_are = entries_behind before run.added old new added run.entries_are makes;
+        past = past;
+        last = handled_of c later;
+        handled_are = refl;
+        front = was.front;
+        spell = spell_with more was.last;
+        spells = spells_on before run.added old added run.entries_are ∙ ap (λ found. spells_from found s added) was.are ∙ spells_within was.front was.last s c added bound keep;
+        told = runs_kept old new added start past was.front makes was.past_told;
+        connection = was.connection;
+        done = connection_acts m bodies ++ done;
+        left = left;
+        acts_are = acts_are ∙ sym (append_assoc (connection_acts m bodies) done left);
+        begun = subst (λ ps. TellEach new.inbound new.outbound (connection_acts m bodies ++ done) ps) (sym (acts_with new.outbound more was.last))
+            (each_join new.inbound new.outbound (connection_acts m bodies) done (act_entries new.outbound was.last) (filter (is_act new.outbound) more)
+            (each_kept old new added (connection_acts m bodies) was.last.entries makes was.told) told);
+      }
+
+  pub opening_begun : (before : List Entry) (start : State) (handled : List Handled) (c : ℕ) (bodies : List (List ℕ)) (done left : List Act) (old new : Book) (added : List Entry)
+      → IsRunOver before start handled old → Makes old new (Bind c ∷ added) → All Keeps added
+      → connection_acts (after_connections start (bodies_of handled)) bodies ≡ done ++ left
+      → TellEach new.inbound new.outbound done (filter (is_act new.outbound) (placed_from (state_after (state_of old.entries) (Bind c)) added))
+      → IsRunBegun before start (handled ++ handled_of c bodies ∷ []) new
+  opening_begun before start handled c bodies done left old new added run makes keep acts_are told =
+      let t = state_after (state_of old.entries) (Bind c) in
+      let more = placed_from t added in
+      record {
+        added = run.added ++ (Bind c ∷ added);
+        entries_are = entries_behind before run.added old new (Bind c ∷ added) run.entries_are makes;
+        past = handled;
+        last = handled_of c bodies;
+        handled_are = refl;
+        front = spells_behind before run.added;
+        spell = spell_with more (new_spell c);
+        spells = spells_on before run.added old (Bind c ∷ added) run.entries_are ∙ spells_within (spells_behind before run.added) (new_spell c) t c added refl keep;
+        told = runs_kept old new (Bind c ∷ added) start handled (spells_behind before run.added) makes run.told;
+        connection = refl;
+        done = done;
+        left = left;
+        acts_are = acts_are;
+        begun = subst (λ ps. TellEach new.inbound new.outbound done ps) (sym (acts_with new.outbound more (new_spell c))) told;
+      }
+
   -- on a session that is bound to no connection
   without_on : (before : List Entry) (start : State) (handled : List Handled) (old new : Book) (added : List Entry)
-      → IsRunOver before start handled old → (state_of old.entries).bound ≡ None → Makes old new added → All Keeps added
+      → IsRunOver before start handled old → (state_of old.entries).bound ≡ None → Makes old new added → All Keeps added → All NoMachine added
       → SameButMoments new.machine (after_connections start (bodies_of handled))
       → IsRunOver before start handled new
-  without_on before start handled old new added run none makes keep machine =
+  without_on before start handled old new added run none makes keep outside machine =
       let s = state_of old.entries in
       let spells : spells_behind before (run.added ++ added) ≡ spells_behind before run.added =
       spells_on before run.added old added run.entries_are ∙ spells_without (spells_behind before run.added) s added none keep in
@@ -262,6 +327,7 @@ module _ (r : RunGrounds) where
         added = run.added ++ added;
         entries_are = entries_behind before run.added old new added run.entries_are makes;
         told = subst (λ found. TellRuns new.inbound new.outbound start handled found) (sym spells) (runs_kept old new added start handled (spells_behind before run.added) makes run.told);
+        inside = inside_on before run.added old added run.entries_are run.inside (inside_none s added outside);
         machine = subst (λ b. StandsBehind b start handled new.machine) (sym (bound_new old new added makes keep ∙ none)) machine;
       }
 
@@ -286,6 +352,8 @@ module _ (r : RunGrounds) where
             (join_run new.inbound new.outbound start handled (handled_of c bodies) (spells_behind before run.added) (spell_with more (new_spell c))
             (runs_kept old new (Bind c ∷ added) start handled (spells_behind before run.added) makes run.told) refl
             (subst (λ ps. TellEach new.inbound new.outbound (connection_acts (after_connections start (bodies_of handled)) bodies) ps) (sym (acts_with new.outbound more (new_spell c))) told));
+        inside = inside_on before run.added old (Bind c ∷ added) run.entries_are run.inside
+            (All-cons IsInside (placed s (Bind c)) more (λ is. absurd (false≢true is)) (inside_bound t c added refl keep));
         machine = subst (λ b. StandsBehind b start (handled ++ handled_of c bodies ∷ []) new.machine) (sym bound) (record { past = handled; bodies = bodies; are = refl; same = machine });
       }
 
@@ -308,6 +376,8 @@ module _ (r : RunGrounds) where
         entries_are = entries_behind before run.added old new (Leave c ∷ []) run.entries_are makes;
         told = subst (λ found. TellRuns new.inbound new.outbound start handled found) (sym (spells_on before run.added old (Leave c ∷ []) run.entries_are))
             (runs_kept old new (Leave c ∷ []) start handled (spells_behind before run.added) makes run.told);
+        inside = inside_on before run.added old (Leave c ∷ []) run.entries_are run.inside
+            (All-cons IsInside (placed s (Leave c)) [] (λ is. absurd (false≢true is)) (All-nil IsInside));
         machine = subst (λ b. StandsBehind b start handled new.machine) (sym none)
             (subst (λ found. SameButMoments found (after_connections start (bodies_of handled))) (sym machine_is)
             (subst (λ found. SameButMoments (after_leave old.machine) found) (sym ends) same));
@@ -315,14 +385,14 @@ module _ (r : RunGrounds) where
 
   -- what changes no act
   quiet_by : (before : List Entry) (start : State) (handled : List Handled) (old new : Book) (added : List Entry) (b : Option ℕ)
-      → (state_of old.entries).bound ≡ b → IsRunOver before start handled old → Makes old new added → All Keeps added
+      → (state_of old.entries).bound ≡ b → IsRunOver before start handled old → Makes old new added → All Keeps added → ((state_of old.entries).bound ≡ None → All NoMachine added)
       → filter (is_act new.outbound) (placed_from (state_of old.entries) added) ≡ []
       → SameButMoments new.machine old.machine
       → IsRunOver before start handled new
-  quiet_by before start handled old new added None bound run makes keep fails same =
+  quiet_by before start handled old new added None bound run makes keep outside fails same =
       let stood : SameButMoments old.machine (after_connections start (bodies_of handled)) = subst (λ b. StandsBehind b start handled old.machine) bound run.machine in
-      without_on before start handled old new added run bound makes keep (r.same.transitive new.machine old.machine (after_connections start (bodies_of handled)) same stood)
-  quiet_by before start handled old new added (Some c) bound run makes keep fails same =
+      without_on before start handled old new added run bound makes keep (outside bound) (r.same.transitive new.machine old.machine (after_connections start (bodies_of handled)) same stood)
+  quiet_by before start handled old new added (Some c) bound run makes keep outside fails same =
       let stood : IsWithin start handled c old.machine = subst (λ b. StandsBehind b start handled old.machine) bound run.machine in
       let m = after_connections start (bodies_of stood.past) in
       let all = stood.past ++ handled_of c stood.bodies ∷ [] in
@@ -333,8 +403,8 @@ module _ (r : RunGrounds) where
       (r.same.transitive new.machine old.machine (behind_all (after_ask m 0) stood.bodies) same stood.same))
 
   pub quiet_on : (before : List Entry) (start : State) (handled : List Handled) (old new : Book) (added : List Entry)
-      → IsRunOver before start handled old → Makes old new added → All Keeps added
+      → IsRunOver before start handled old → Makes old new added → All Keeps added → ((state_of old.entries).bound ≡ None → All NoMachine added)
       → filter (is_act new.outbound) (placed_from (state_of old.entries) added) ≡ []
       → SameButMoments new.machine old.machine
       → IsRunOver before start handled new
-  quiet_on before start handled old new added run makes keep fails same = quiet_by before start handled old new added (state_of old.entries).bound refl run makes keep fails same
+  quiet_on before start handled old new added run makes keep outside fails same = quiet_by before start handled old new added (state_of old.entries).bound refl run makes keep outside fails same

@@ -31,6 +31,7 @@ use Rattle.session_book.specs.Told.{TellActs, TellsAct}
 use Rattle.session_book.specs.Words.{sent_entry, shown_sends, with_sends}
 use Rattle.session_book.proofs.News.{named}
 use Rattle.session_book.proofs.Runs.{Makes, RunGrounds, entries_behind}
+use Rattle.session_book.proofs.Spells.{placed_join}
 use Rattle.session_book.proofs.Telling.{LogsAgree, agree_sent, news_is, sends_from_first, sent_is, series_are}
 
 abbrev is_send : Entry → Bool
@@ -81,10 +82,6 @@ none_logged : (log : List (List OutEntry)) (s : Totals) (es : List Entry) → Al
 none_logged log s [] are = All-nil (HasSend log)
 none_logged log s (e ∷ es) are =
     All-cons (HasSend log) (placed s e) (placed_from (state_after s e) es) (logged_none log s e (All-head NoSend e es are)) (none_logged log (state_after s e) es (All-tail NoSend e es are))
-
-placed_join : (s : Totals) (first second : List Entry) → placed_from s (first ++ second) ≡ placed_from s first ++ placed_from (fold state_after s first) second
-placed_join s [] second = refl
-placed_join s (e ∷ es) second = ap (λ ps. placed s e ∷ ps) (placed_join (state_after s e) es second)
 
 one_no_send : (inbound : List (List ℕ)) (log : List (List OutEntry)) (s : Totals) (act : Act) (e : Entry) → TellsAct inbound log s act e → NoSend e
 one_no_send inbound log s (Accept body) e is = ap is_send is.1.0

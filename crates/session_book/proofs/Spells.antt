@@ -3,11 +3,12 @@ use Rattle.std.proofs.Common.{◌≡◌, ℕ, Bool, true, false, if◌then◌els
 use Rattle.std.specs.List.{All, filter}
 use Rattle.std.proofs.lemmas.Bool.{false≢true}
 use Rattle.std.proofs.lemmas.List.{append-nil}
-use Rattle.std.proofs.lemmas.List.Elements.{All-head, All-tail, filter-append}
+use Rattle.std.proofs.lemmas.List.Elements.{All-cons, All-head, All-nil, All-tail, filter-append}
 use Rattle.lease_core.specs.State.{State as Totals, state_after, with_last}
 use Rattle.lease_core.specs.declared.entry.Entry.{Entry}
 use Rattle.lease_core.specs.declared.entry.Entry.TheVariants.{Arrive, Admin, Bind, Plan, Leave, Reset, Granted, Refused, Send, Release, Timeout, Hold, Lapse}
 use Rattle.message_log.specs.declared.entry.OutEntry.{OutEntry}
+use Rattle.session_book.specs.Runs.{IsInside, is_of_machine}
 use Rattle.session_book.specs.Spells.{Placed, Spell, act_entries, is_act, placed, placed_from, spell_with, spells_after, spells_from}
 
 pub changed_last : {T : Type 0} (f : T → T) (xs : List T) (x : T) → with_last f (xs ++ x ∷ []) ≡ xs ++ f x ∷ []
@@ -98,3 +99,25 @@ bound_stays s (e ∷ es) keep = bound_stays (state_after s e) es (All-tail Keeps
 -- the acts of a spell that has more entries
 pub acts_with : (log : List (List OutEntry)) (more : List Placed) (spell : Spell) → act_entries log (spell_with more spell) ≡ act_entries log spell ++ filter (is_act log) more
 acts_with log more spell = filter-append (is_act log) spell.entries more
+
+-- entries in their places, in two parts
+pub placed_join : (s : Totals) (first second : List Entry) → placed_from s (first ++ second) ≡ placed_from s first ++ placed_from (fold state_after s first) second
+placed_join s [] second = refl
+placed_join s (e ∷ es) second = ap (λ ps. placed s e ∷ ps) (placed_join (state_after s e) es second)
+
+-- an entry that the session machine doesn't ask for
+abbrev pub NoMachine : Entry → Type 0
+NoMachine e = is_of_machine e ≡ false
+
+pub inside_bound : (s : Totals) (c : ℕ) (es : List Entry) → s.bound ≡ Some c → All Keeps es → All IsInside (placed_from s es)
+inside_bound s c [] bound keep = All-nil IsInside
+inside_bound s c (e ∷ es) bound keep =
+    let keeps = All-head Keeps e es keep in
+    All-cons IsInside (placed s e) (placed_from (state_after s e) es) (λ is. ap (λ (b : Option ℕ). is_some b) bound)
+    (inside_bound (state_after s e) c es (bound_kept s e keeps ∙ bound) (All-tail Keeps e es keep))
+
+pub inside_none : (s : Totals) (es : List Entry) → All NoMachine es → All IsInside (placed_from s es)
+inside_none s [] none = All-nil IsInside
+inside_none s (e ∷ es) none =
+    All-cons IsInside (placed s e) (placed_from (state_after s e) es) (λ is. absurd (false≢true (sym (All-head NoMachine e es none) ∙ is)))
+    (inside_none (state_after s e) es (All-tail NoMachine e es none))

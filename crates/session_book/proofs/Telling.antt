@@ -100,10 +100,10 @@ has_both : (log : List (List OutEntry)) (s : Totals) (first second : List Entry)
 has_both log s [] second has more = more
 has_both log s (e ∷ es) second has more = (has.0, has_both log (state_after s e) es second has.1 more)
 
-with_both : (first second : List WireItem) (out : Outgoing) → with_items second (with_items first out) ≡ with_items (first ++ second) out
+pub with_both : (first second : List WireItem) (out : Outgoing) → with_items second (with_items first out) ≡ with_items (first ++ second) out
 with_both first second out = ap (λ (unmade : List WireItem). record out { unmade = unmade }) (append_assoc out.unmade first second)
 
-with_nothing : (out : Outgoing) → with_items [] out ≡ out
+pub with_nothing : (out : Outgoing) → with_items [] out ≡ out
 with_nothing out = ap (λ (unmade : List WireItem). record out { unmade = unmade }) (append-nil out.unmade)
 
 -- one event behind another
@@ -311,7 +311,7 @@ module _ (g : Grounds) where
   }
 
   -- the number behind a send's
-  number_behind : (at : ℕ) (body : List ℕ) (book : Book) → LogsAgree book
+  pub number_behind : (at : ℕ) (body : List ℕ) (book : Book) → LogsAgree book
       → let log = with_entry book.outbound (sent_entry at body) in
       length (series_at log (length log)) + 1 ≡ length (series_at book.outbound (length book.outbound)) + 1 + 1
   number_behind at body book is =
@@ -320,7 +320,7 @@ module _ (g : Grounds) where
       ap (λ s. last_or 0 s.series) (g.decide book.entries _) ∙ last_changed 0 (state_of book.entries).series (subst (λ (ns : List ℕ). 1 ≤ length ns) is.outbound (let same = length-map book.outbound (λ entries. length entries) in let begun = is.begun in omega arith)) in
       ap (λ n. n + 1) (sym (sent_is next (agree_sent at body book is)) ∙ sent ∙ ap (λ n. n + 1) (sent_is book is))
 
-  length_behind : (at : ℕ) (body : List ℕ) (book : Book) → LogsAgree book → length (with_entry book.outbound (sent_entry at body)) ≡ length book.outbound
+  pub length_behind : (at : ℕ) (body : List ℕ) (book : Book) → LogsAgree book → length (with_entry book.outbound (sent_entry at body)) ≡ length book.outbound
   length_behind at body book is =
       let next = record book { entries = entries_after_send book.entries; outbound = with_entry book.outbound (sent_entry at body) } in
       sym (series_are next (agree_sent at body book is)) ∙ ap (λ s. length s.series) (g.decide book.entries _) ∙ length_changed (state_of book.entries).series ∙ series_are book is

@@ -31,14 +31,14 @@ abbrev pub ItemsQueue : Type 0
 ItemsQueue = (names : Names2) (log : List (List OutEntry)) (items more : List WireItem) (out : Outgoing) → AreItemsOf names log items out → All (NamesEntry log) more → AreItemsOf names log (items ++ more) (with_items more out)
 
 -- what entries tell that were made while the session was bound to the connection
-items_placed : (c : ℕ) (log : List (List OutEntry)) (s : Totals) (es : List Entry) → s.bound ≡ Some c → All Keeps es → items_from c log s es ≡ flat_map (items_at log) (placed_from s es)
+pub items_placed : (c : ℕ) (log : List (List OutEntry)) (s : Totals) (es : List Entry) → s.bound ≡ Some c → All Keeps es → items_from c log s es ≡ flat_map (items_at log) (placed_from s es)
 items_placed c log s [] bound keep = refl
 items_placed c log s (e ∷ es) bound keep =
     ap (λ (b : Option ℕ). (if is_connection b c then items_of_entry log s e else []) ++ items_from c log (state_after s e) es) bound
     ∙ ap (λ items. items ++ items_from c log (state_after s e) es) (cond-true (c == c) (items_of_entry log s e) [] (eq-eqb c c refl))
     ∙ ap (λ items. items_of_entry log s e ++ items) (items_placed c log (state_after s e) es (bound_kept s e (All-head Keeps e es keep) ∙ bound) (All-tail Keeps e es keep))
 
-sent_placed : (log : List (List OutEntry)) (s : Totals) (es : List Entry) → HasWhatWasSent log s es → All (WasSent log) (placed_from s es)
+pub sent_placed : (log : List (List OutEntry)) (s : Totals) (es : List Entry) → HasWhatWasSent log s es → All (WasSent log) (placed_from s es)
 sent_placed log s [] has = All-nil (WasSent log)
 sent_placed log s (e ∷ es) has = All-cons (WasSent log) (placed s e) (placed_from (state_after s e) es) has.0 (sent_placed log (state_after s e) es has.1)
 
@@ -67,7 +67,7 @@ nothing_if true = refl
 nothing_if false = refl
 
 module _ (r : RunGrounds) where
-  items_stand : (earlier later : List (List OutEntry)) (ps : List Placed) → GoesOn earlier later → All (WasSent earlier) ps → flat_map (items_at later) ps ≡ flat_map (items_at earlier) ps
+  pub items_stand : (earlier later : List (List OutEntry)) (ps : List Placed) → GoesOn earlier later → All (WasSent earlier) ps → flat_map (items_at later) ps ≡ flat_map (items_at earlier) ps
   items_stand earlier later [] on sent = refl
   items_stand earlier later (p ∷ ps) on sent =
       ap (λ items. items ++ flat_map (items_at later) ps) (same_entry r.logs.begins earlier later p.before p.entry on (All-head (WasSent earlier) p ps sent))
@@ -76,7 +76,7 @@ module _ (r : RunGrounds) where
   sent_more : (earlier later : List (List OutEntry)) (p : Placed) → GoesOn earlier later → WasSent earlier p → WasSent later p
   sent_more earlier later p on is = let more = longer r.logs.begins earlier later (series_of p.before) on in omega arith
 
-  sent_stands : (earlier later : List (List OutEntry)) (ps : List Placed) → GoesOn earlier later → All (WasSent earlier) ps → All (WasSent later) ps
+  pub sent_stands : (earlier later : List (List OutEntry)) (ps : List Placed) → GoesOn earlier later → All (WasSent earlier) ps → All (WasSent later) ps
   sent_stands earlier later [] on sent = All-nil (WasSent later)
   sent_stands earlier later (p ∷ ps) on sent =
       All-cons (WasSent later) p ps (sent_more earlier later p on (All-head (WasSent earlier) p ps sent)) (sent_stands earlier later ps on (All-tail (WasSent earlier) p ps sent))

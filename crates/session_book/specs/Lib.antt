@@ -8,6 +8,7 @@ pub mod Spells
 pub mod Runs
 pub mod Texts
 pub mod Sends
+pub mod Moments
 pub mod Reviving
 pub mod Records
 pub mod Rereading

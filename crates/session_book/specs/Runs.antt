@@ -1,14 +1,16 @@
 -- A session's run over its connections: what was handled of each, and what the journal tells of that.
-use Rattle.std.specs.Prelude.{◌≡◌, ℕ, List, [], ◌∷◌, ◌++◌, map, Option, None, Some}
+use Rattle.std.specs.Prelude.{◌≡◌, ℕ, Bool, true, false, IsSome, List, [], ◌∷◌, ◌++◌, map, Option, None, Some}
+use Rattle.std.specs.List.{All}
 use Rattle.lease_core.specs.State.{state_of, with_last}
 use Rattle.lease_core.specs.declared.entry.Entry.{Entry}
+use Rattle.lease_core.specs.declared.entry.Entry.TheVariants.{Admin, Arrive, Plan, Reset}
 use Rattle.message_log.specs.declared.entry.OutEntry.{OutEntry}
 use Rattle.session_core.specs.Ask.{after_ask}
 use Rattle.session_core.specs.Runs.{SameButMoments, after_connection, after_connections, behind_all, connection_acts}
 use Rattle.session_core.specs.State.{State}
 use Rattle.session_core.specs.declared.acts.Act.{Act}
 use Rattle.session_book.specs.Book.{Book}
-use Rattle.session_book.specs.Spells.{Placed, Spell, act_entries, spells_behind}
+use Rattle.session_book.specs.Spells.{Placed, Spell, act_entries, placed_from, spells_behind}
 use Rattle.session_book.specs.Told.{TellsAct}
 
 -- a connection to which the session was bound, and the messages that it handled of it, in order
@@ -54,10 +56,40 @@ abbrev pub StandsBehind : Option ℕ → State → List Handled → State → Ty
 StandsBehind None start handled machine = SameButMoments machine (after_connections start (bodies_of handled))
 StandsBehind (Some c) start handled machine = IsWithin start handled c machine
 
+-- what the session machine asks for, and not a lease
+abbrev pub is_of_machine : Entry → Bool
+is_of_machine (Arrive pos) = true
+is_of_machine (Admin number) = true
+is_of_machine (Plan begin last at) = true
+is_of_machine (Reset series) = true
+is_of_machine _ = false
+
+-- it is made while the session is bound
+abbrev pub IsInside : Placed → Type 0
+IsInside p = is_of_machine p.entry ≡ true → IsSome p.before.bound
+
 -- These are the connections to which the session was bound behind the entries before, in order, with what was handled of each: the journal tells of
--- their acts and of no others.
+-- their acts and of no others, and what the session machine asks for lies in one of their spells.
 pub record IsRunOver (before : List Entry) (start : State) (handled : List Handled) (book : Book) : Type 0 where
   pub added : List Entry
   pub entries_are : book.entries ≡ before ++ added
   pub told : TellRuns book.inbound book.outbound start handled (spells_behind before added)
+  pub inside : All IsInside (placed_from (state_of before) added)
   pub machine : StandsBehind (state_of book.entries).bound start handled book.machine
+
+-- The same where memory was wanting: of the last connection a beginning of the acts is told, and of those before it all.
+pub record IsRunBegun (before : List Entry) (start : State) (handled : List Handled) (book : Book) : Type 0 where
+  pub added : List Entry
+  pub entries_are : book.entries ≡ before ++ added
+  pub past : List Handled
+  pub last : Handled
+  pub handled_are : handled ≡ past ++ last ∷ []
+  pub front : List Spell
+  pub spell : Spell
+  pub spells : spells_behind before added ≡ front ++ spell ∷ []
+  pub told : TellRuns book.inbound book.outbound start past front
+  pub connection : spell.connection ≡ last.connection
+  pub done : List Act
+  pub left : List Act
+  pub acts_are : connection_acts (after_connections start (bodies_of past)) last.bodies ≡ done ++ left
+  pub begun : TellEach book.inbound book.outbound done (act_entries book.outbound spell)

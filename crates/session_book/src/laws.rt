@@ -1,28 +1,31 @@
 //! Laws of the definitions. Each is the contract of a function that does nothing.
 
-ghost use Rattle.std.specs.Prelude.{◌≡◌, ◌≢◌, ℕ, List, [], ◌∷◌, ◌++◌, None, Some, length, take, All};
+ghost use Rattle.std.specs.Prelude.{◌≡◌, ◌≢◌, ◌≤◌, ℕ, List, [], ◌∷◌, ◌++◌, None, Some, length, take, All};
 ghost use Rattle.connection_core.specs.Items.{AreItemsOf};
 ghost use Rattle.connection_core.specs.Outgoing.{Outgoing, waiting_count, written_text};
 ghost use Rattle.resend_plan.specs.Wire.{NamesEntry};
 ghost use Rattle.resend_plan.specs.declared.item.Names2.{Names2};
 ghost use Rattle.resend_plan.specs.declared.item.WireItem.{WireItem};
 ghost use Rattle.lease_core.specs.State.{state_of};
-ghost use Rattle.session_book.specs.Acts.{after_binding, after_dial, after_end, after_lapse, after_message, after_request, after_ticking};
-ghost use Rattle.session_book.specs.Book.{Book, Desk, with_event, with_outbox};
+ghost use Rattle.session_book.specs.Acts.{IsBegun, after_binding, after_dial, after_end, after_lapse, after_message, after_request, after_ticking};
+ghost use Rattle.session_book.specs.Book.{Book, Desk, with_event, with_machine, with_outbox};
 ghost use Rattle.session_book.specs.Items.{QueuesWhatIsTold};
 ghost use Rattle.lease_core.specs.declared.word.Word.{Word};
 ghost use Rattle.session_book.specs.Kept.{IsBook};
-ghost use Rattle.session_book.specs.Runs.{Handled, IsRunOver, handled_of, with_body};
+ghost use Rattle.session_book.specs.Moments.{IsTimedRun};
+ghost use Rattle.session_core.specs.declared.phases.Phase.TheVariants as Phase;
+ghost use Rattle.session_book.specs.Runs.{Handled, IsRunBegun, IsRunOver, handled_of, with_body};
 ghost use Rattle.lease_core.specs.declared.entry.Entry.{Entry};
+ghost use Rattle.lease_core.specs.declared.entry.Entry.TheVariants.{Admin, Arrive, Bind};
 ghost use Rattle.session_core.specs.State.{IsState, State};
 ghost use Rattle.session_book.specs.Sends.{AreSendsOf, new_sends};
 ghost use Rattle.message_log.specs.declared.entry.OutEntry.{OutEntry};
 ghost use Rattle.session_book.specs.Texts.{IsTextOf, outbound_text};
 ghost use Rattle.session_book.specs.Told.{CarriesOut};
 ghost use Rattle.lease_core.specs.declared.event.Event.TheVariants.{Binds};
-ghost use Rattle.session_core.specs.Ask.{ask};
-ghost use Rattle.session_core.specs.Receive.{receive};
-ghost use Rattle.session_core.specs.Tick.{tick};
+ghost use Rattle.session_core.specs.Ask.{after_ask, ask};
+ghost use Rattle.session_core.specs.Receive.{after_receive, receive};
+ghost use Rattle.session_core.specs.Tick.{after_tick, tick};
 ghost use Rattle.session_book.specs.Words.{after_timeout, after_word, shown_sends};
 
 use connection_core::{items_have_text, items_stay_queued};
@@ -30,8 +33,8 @@ use lease_core::laws::entries_decide_one_by_one;
 use message_log::{entries_stay, logs_go_on};
 use resend_plan::{items_stay, plans_answer};
 use session_core::laws::{
-    acts_of_messages, acts_of_ticks, moments_dont_matter, runs_in_parts, sameness_laws,
-    texts_of_messages,
+    acts_of_messages, acts_of_ticks, moments_dont_matter, phases_follow, runs_in_parts,
+    sameness_laws, texts_of_messages,
 };
 
 /// What comes to wait on the bound connection is what the journal tells, in order: one item for each
@@ -103,6 +106,36 @@ pub fn runs_are_told()
         → IsRunOver before start handled book → IsRunOver before start handled (after_request library nr from book) }
     ensures lapse { (before : List Entry) (start : State) (handled : List Handled) (book : Book)
         → IsRunOver before start handled book → IsRunOver before start handled (after_lapse book) }
+{
+    entries_decide_one_by_one();
+    entries_stay();
+    logs_go_on();
+    moments_dont_matter();
+    runs_in_parts();
+    sameness_laws();
+    texts_of_messages();
+    acts_of_messages();
+    acts_of_ticks();
+    items_stay();
+    plans_answer();
+}
+
+/// Where memory was wanting the journal tells of a beginning of the acts.
+pub fn runs_are_begun()
+    ensures bind { (before : List Entry) (start : State) (handled : List Handled) (c at : ℕ) (body : List ℕ) (desk new : Desk) → IsBook desk.book → IsState desk.book.machine
+        → (state_of desk.book.entries).bound ≡ None → desk.book.machine.dials ≡ None
+        → IsBegun at (receive desk.book.machine body at).acts (with_outbox (with_machine (after_receive desk.book.machine body at) (with_event (Binds c) desk.book)) desk.outgoing) new
+        → IsRunOver before start handled desk.book → IsRunBegun before start (handled ++ handled_of c (body ∷ []) ∷ []) new.book }
+    ensures dial { (before : List Entry) (start : State) (handled : List Handled) (c at : ℕ) (desk new : Desk) → IsBook desk.book → (state_of desk.book.entries).bound ≡ None
+        → IsBegun at (ask desk.book.machine).acts (with_outbox (with_machine (after_ask desk.book.machine at) (with_event (Binds c) desk.book)) desk.outgoing) new
+        → IsRunOver before start handled desk.book → IsRunBegun before start (handled ++ handled_of c [] ∷ []) new.book }
+    ensures message { (before : List Entry) (start : State) (handled : List Handled) (c at : ℕ) (body : List ℕ) (desk new : Desk) → IsBook desk.book → IsState desk.book.machine → (state_of desk.book.entries).bound ≡ Some c
+        → IsBegun at (receive desk.book.machine body at).acts (with_outbox (with_machine (after_receive desk.book.machine body at) desk.book) desk.outgoing) new
+        → IsRunOver before start handled desk.book → IsRunBegun before start (with_body body handled) new.book }
+    // What the clock asks for tells of no act, in part or whole.
+    ensures tick { (before : List Entry) (start : State) (handled : List Handled) (at : ℕ) (desk new : Desk) → IsBook desk.book
+        → IsBegun at (tick desk.book.machine at).acts (with_outbox (with_machine (after_tick desk.book.machine at) desk.book) desk.outgoing) new
+        → IsRunOver before start handled desk.book → IsRunOver before start handled new.book }
 {
     entries_decide_one_by_one();
     entries_stay();
@@ -239,3 +272,57 @@ pub fn sends_are_told()
     items_stay();
     plans_answer();
 }
+
+/// A Heartbeat that answers no TestRequest comes where nothing was sent on its connection for
+/// HeartBtInt, over whole runs whose events come in the order of their moments.
+pub fn beats_come_in_time()
+    ensures first { (book : Book) (at : ℕ) → (state_of book.entries).bound ≡ None → book.machine.sent ≤ at → IsTimedRun book.entries book.machine [] at book }
+    // Time goes on.
+    ensures later { (before : List Entry) (start : State) (handled : List Handled) (moment at : ℕ) (book : Book) → moment ≤ at → IsTimedRun before start handled moment book → IsTimedRun before start handled at book }
+    ensures bind { (before : List Entry) (start : State) (handled : List Handled) (moment c at : ℕ) (body : List ℕ) (desk : Desk) → IsBook desk.book → IsState desk.book.machine
+        → (state_of desk.book.entries).bound ≡ None → desk.book.machine.dials ≡ None → moment ≤ at → IsTimedRun before start handled moment desk.book
+        → IsTimedRun before start (handled ++ handled_of c (body ∷ []) ∷ []) at (after_binding at c body desk).book }
+    ensures dial { (before : List Entry) (start : State) (handled : List Handled) (moment c at : ℕ) (desk : Desk) → IsBook desk.book → (state_of desk.book.entries).bound ≡ None → moment ≤ at
+        → IsTimedRun before start handled moment desk.book → IsTimedRun before start (handled ++ handled_of c [] ∷ []) at (after_dial at c desk).book }
+    ensures message { (before : List Entry) (start : State) (handled : List Handled) (moment c at : ℕ) (body : List ℕ) (desk : Desk) → IsBook desk.book → IsState desk.book.machine
+        → (state_of desk.book.entries).bound ≡ Some c → desk.book.machine.phase ≢ Phase.Off → moment ≤ at → IsTimedRun before start handled moment desk.book
+        → IsTimedRun before start (with_body body handled) at (after_message at body desk).book }
+    ensures tick { (before : List Entry) (start : State) (handled : List Handled) (moment at : ℕ) (desk : Desk) → IsBook desk.book → moment ≤ at
+        → IsTimedRun before start handled moment desk.book → IsTimedRun before start handled at (after_ticking at desk).book }
+    ensures leave { (before : List Entry) (start : State) (handled : List Handled) (moment c : ℕ) (book : Book) → (state_of book.entries).bound ≡ Some c
+        → IsTimedRun before start handled moment book → IsTimedRun before start handled moment (after_end c book) }
+    ensures word { (before : List Entry) (start : State) (handled : List Handled) (moment at until : ℕ) (w : Word) (bodies : List (List ℕ)) (desk : Desk) → IsBook desk.book
+        → length bodies ≡ shown_sends desk.book.entries w → moment ≤ at
+        → IsTimedRun before start handled moment desk.book → IsTimedRun before start handled at (after_word at until w bodies desk).book }
+    ensures timeout { (before : List Entry) (start : State) (handled : List Handled) (moment at until : ℕ) (old : Word) (bodies : List (List ℕ)) (desk : Desk) → IsBook desk.book
+        → length bodies ≡ shown_sends desk.book.entries old → moment ≤ at
+        → IsTimedRun before start handled moment desk.book → IsTimedRun before start handled at (after_timeout at until old bodies desk).book }
+    ensures request { (before : List Entry) (start : State) (handled : List Handled) (moment library nr from : ℕ) (desk : Desk) → IsBook desk.book
+        → IsTimedRun before start handled moment desk.book → IsTimedRun before start handled moment (after_request library nr from desk.book) }
+    ensures lapse { (before : List Entry) (start : State) (handled : List Handled) (moment : ℕ) (desk : Desk) → IsBook desk.book
+        → IsTimedRun before start handled moment desk.book → IsTimedRun before start handled moment (after_lapse desk.book) }
+{
+    entries_decide_one_by_one();
+    entries_stay();
+    logs_go_on();
+    moments_dont_matter();
+    runs_in_parts();
+    sameness_laws();
+    phases_follow();
+    texts_of_messages();
+    acts_of_messages();
+    acts_of_ticks();
+    items_stay();
+    plans_answer();
+}
+
+/// Records that no session leaves: logs of which no entry tells, and entries that no connection asked
+/// for, as a Logon's answer before the Bind.
+pub fn wrong_records_are_none()
+    ensures inbound { (book : Book) (body : List ℕ) → book.entries ≡ [] → book.inbound ≡ body ∷ [] → IsBook book → ⊥ }
+    ensures outbound { (book : Book) (entry : OutEntry) → book.entries ≡ [] → book.outbound ≡ (entry ∷ []) ∷ [] → IsBook book → ⊥ }
+    ensures before_bind { (start : State) (handled : List Handled) (c number : ℕ) (book : Book) → book.entries ≡ Admin number ∷ Bind c ∷ [] → IsRunOver [] start handled book → ⊥ }
+    ensures unasked { (start : State) (c pos : ℕ) (book : Book) → book.entries ≡ Bind c ∷ Arrive pos ∷ [] → IsRunOver [] start (handled_of c [] ∷ []) book → start.dials ≡ None → ⊥ }
+    // Another connection than the one that was bound.
+    ensures another { (start : State) (c d : ℕ) (bodies : List (List ℕ)) (book : Book) → book.entries ≡ Bind c ∷ [] → IsRunOver [] start (handled_of d bodies ∷ []) book → c ≡ d }
+{}

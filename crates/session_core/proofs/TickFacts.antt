@@ -1,10 +1,10 @@
 -- What the clock asks of a session, at most one act.
-use Rattle.std.proofs.Common.{◌≡◌, ℕ, ◌+◌, ◌*◌, inl, inr, Bool, true, false, if◌then◌else◌, Option, Some, None, refl}
+use Rattle.std.proofs.Common.{◌≡◌, ◌⊎◌, ℕ, ◌+◌, ◌*◌, inl, inr, Bool, true, false, if◌then◌else◌, Option, Some, None, refl}
 use Rattle.std.specs.Prelude.{◌==◌, nat_le}
 use Rattle.std.proofs.lemmas.Bool.{leb-true}
 use Rattle.session_core.specs.Laws.{ActsOfTicks, AsksOneAct}
 use Rattle.session_core.specs.State.{State, heart_in}
-use Rattle.session_core.specs.Tick.{alive, beat, effects_at, tick_in, tick_of}
+use Rattle.session_core.specs.Tick.{alive, beat, behind_tick, effects_at, tick, tick_in, tick_of}
 use Rattle.session_core.specs.declared.phases.Phase.{Phase}
 use Rattle.session_core.specs.declared.phases.Phase.TheVariants.{Off, Asked, On}
 use Rattle.session_core.specs.declared.ticks.TheConstants.{ANSWER_WAIT}
@@ -45,6 +45,15 @@ module _ (state : State) (m : ℕ) where
   phase_asks (Asked heart) = either_asks heart (nat_le (state.received + ANSWER_WAIT) m) Expire Quiet (expire_asks heart) (quiet_asks heart)
   phase_asks (On heart) = either_asks heart (heart == 0) Quiet (alive state heart m state.waiting) (quiet_asks heart) (waiting_asks heart state.waiting)
 
-pub acts_of_ticks : ActsOfTicks
+one_act : (state : State) (m : ℕ) → AsksOneAct state (heart_in state.phase) m (tick state m).acts
 unfolding tick_of
-acts_of_ticks state m = phase_asks state m state.phase
+one_act state m = phase_asks state m state.phase
+
+sent_by : (state : State) (m : ℕ) (t : Tick) → ((behind_tick state m t).sent ≡ state.sent) ⊎ ((behind_tick state m t).sent ≡ m)
+sent_by state m Quiet = inl refl
+sent_by state m Beat = inr refl
+sent_by state m Test = inr refl
+sent_by state m Expire = inl refl
+
+pub acts_of_ticks : ActsOfTicks
+acts_of_ticks = record { one = one_act; sent = λ state m. sent_by state m (tick_of state m) }

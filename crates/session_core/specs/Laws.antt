@@ -72,8 +72,9 @@ AsksOneAct state heart m acts =
     (acts ≡ []) ⊎ ((acts ≡ Send TestRequest ∷ []) ⊎ ((acts ≡ Send (Heartbeat None) ∷ []) × (state.sent + 1000 * heart ≤ m)))
 
 -- what the clock asks
-abbrev pub ActsOfTicks : Type 0
-ActsOfTicks = (state : State) (m : ℕ) → AsksOneAct state (heart_in state.phase) m (tick state m).acts
+pub record ActsOfTicks : Type 0 where
+  pub one : (state : State) (m : ℕ) → AsksOneAct state (heart_in state.phase) m (tick state m).acts
+  pub sent : (state : State) (m : ℕ) → ((after_tick state m).sent ≡ state.sent) ⊎ ((after_tick state m).sent ≡ m)
 
 -- what the text of a session message is
 pub record TextsOfMessages : Type 0 where
