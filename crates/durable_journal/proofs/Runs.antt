@@ -9,7 +9,7 @@ use Rattle.lease_core.specs.State.{State, state_after, opening, state_of}
 use Rattle.lease_core.specs.Runs.{IsNext, IsRun, IsRunFrom}
 use Rattle.lease_core.specs.declared.entry.Entry.{Entry}
 use Rattle.lease_core.specs.declared.record.Record.{Record}
-use Rattle.durable_journal.specs.Files.{entries_of, AreRuns}
+use Rattle.durable_journal.specs.Files.{entries_of, AreRuns, IsLawful, IsBatch, Stands, all_of}
 
 from_front : (limit : ℕ) (s : State) (es fs : List Entry) → IsRunFrom limit s (es ++ fs) → IsRunFrom limit s es
 from_front limit s [] fs run = tt
@@ -96,3 +96,25 @@ runs_last sessions leases xs r runs = run_last leases (entries_of r.s xs) r.entr
 
 pub session_last : (sessions leases : ℕ) (xs : List Record) (r : Record) → AreRuns sessions leases (xs ++ r ∷ []) → r.s < sessions
 session_last sessions leases xs r runs = all_last sessions xs r runs.in_sessions
+
+-- ---- what a file holds
+
+lawful_more : (xs ys : List Record) → AllByRecursion IsLawful xs → AllByRecursion IsLawful ys → AllByRecursion IsLawful (xs ++ ys)
+lawful_more [] ys all more = more
+lawful_more (r ∷ xs) ys all more = (all.0, lawful_more xs ys all.1 more)
+
+lawful_all : (batches : List (List Record)) → AllByRecursion IsBatch batches → AllByRecursion IsLawful (all_of batches)
+lawful_all [] each = tt
+lawful_all (batch ∷ batches) each = lawful_more batch (all_of batches) each.0.lawful (lawful_all batches each.1)
+
+pub held_lawful : (sessions leases : ℕ) (file : List ℕ) (records : List Record) → Stands sessions leases file records → AllByRecursion IsLawful records
+held_lawful sessions leases file records stands = elim stands [
+  | inl none ↦ subst (λ (l : List Record). AllByRecursion IsLawful l) (sym none.1) tt
+  | inr held ↦ subst (λ (l : List Record). AllByRecursion IsLawful l) (sym held.records_are) (lawful_all held.batches held.is_file.lawful.each)
+]
+
+pub held_runs : (sessions leases : ℕ) (file : List ℕ) (records : List Record) → Stands sessions leases file records → AreRuns sessions leases records
+held_runs sessions leases file records stands = elim stands [
+  | inl none ↦ subst (λ (l : List Record). AreRuns sessions leases l) (sym none.1) (runs_none sessions leases)
+  | inr held ↦ subst (λ (l : List Record). AreRuns sessions leases l) (sym held.records_are) held.is_file.lawful.runs
+]

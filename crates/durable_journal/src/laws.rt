@@ -1,15 +1,37 @@
 //! Laws of the definitions that the contracts of this crate cite. The functions do nothing.
 
 ghost use Rattle.std.specs.Prelude.{◌≡◌, ◌++◌, ℕ, List};
+ghost use Rattle.std.specs.List.{AllByRecursion};
+ghost use Rattle.session_core.specs.Admin.{admin_text};
+ghost use Rattle.session_core.specs.declared.acts.Admin.{Admin};
 ghost use Rattle.lease_core.specs.declared.record.Record.{Record};
 ghost use Rattle.durable_journal.specs.Disk.{History, IsSynced, after_step, Sync};
-ghost use Rattle.durable_journal.specs.Files.{Stands, IsDamaged, IsLawful};
+ghost use Rattle.durable_journal.specs.Files.{Stands, IsDamaged, IsLawful, AreRuns};
+ghost use Rattle.durable_journal.specs.Records.{IsAdminBody, IsPlainAdmin};
 ghost use Rattle.durable_journal.specs.RecordText.{record_text};
 
 /// A file stands for at most one list of records, and none that stands for one is damaged.
 pub fn files_stand_once()
     ensures once { (sessions leases : ℕ) (file : List ℕ) (a b : List Record) → Stands sessions leases file a → Stands sessions leases file b → a ≡ b }
     ensures undamaged { (sessions leases : ℕ) (file : List ℕ) (records : List Record) (place : ℕ) → Stands sessions leases file records → IsDamaged sessions leases file place → ⊥ }
+{}
+
+/// The records for which a file stands are of the table, with their numbers in their types, and each
+/// session's entries are a run.
+pub fn files_hold_records()
+    ensures lawful { (sessions leases : ℕ) (file : List ℕ) (records : List Record) → Stands sessions leases file records → AllByRecursion IsLawful records }
+    ensures runs { (sessions leases : ℕ) (file : List ℕ) (records : List Record) → Stands sessions leases file records → AreRuns sessions leases records }
+{}
+
+/// What stands at the beginning of runs are runs.
+pub fn beginnings_are_runs()
+    ensures { (sessions leases : ℕ) (records more : List Record) → AreRuns sessions leases (records ++ more) → AreRuns sessions leases records }
+{}
+
+/// The text of each session message whose numbers are in their types, and whose texts aren't empty and
+/// have no SOH, is the body of an Admin's record.
+pub fn session_texts_are_bodies()
+    ensures { (admin : Admin) (number : ℕ) → IsPlainAdmin admin → IsAdminBody number (admin_text admin number) }
 {}
 
 /// A record is read in one way, whatever stands behind it.
