@@ -1,22 +1,43 @@
 //! A file of the system, and disks that fail.
 
+ghost use Rattle.std.specs.Prelude.{◌≡◌, None};
+
+use crate::logons::append_logon;
 use crate::recovering::{Recovery, records, recovery_of};
-use crate::rows::{bind, one_batch};
-use durable_journal::{AppendError, DiskFault, FileDisk, MemDisk, RecoverError};
+use crate::rows::{bind, logon, one_batch};
+use durable_journal::{AppendError, Disk, DiskFault, FileDisk, MemDisk, RecoverError, recover};
+use gate_io::NoMemory;
 use std::alloc::{AllocError, Global};
 use std::fmt::Display;
 use std::fs;
 use std::test::Fail;
 
+/// Makes a journal, and writes a Logon to it. Whether the disk took that.
+fn write_logon<D: Disk + Drop>(alloc: Global, disk: D) -> Result<bool, NoMemory>
+    requires untold { (disk : D) → D.history disk ≡ None }
+{
+    let Ok((mut journal, _found)) = recover(alloc, disk, 1, 10) else {
+        return Ok(false);
+    };
+    if append_logon(alloc, &mut journal, 30)?.is_err() {
+        return Ok(false);
+    }
+    Ok(journal.sync().is_ok())
+}
+
 #[test]
-fn a_file_is_made_and_recovered(rt: HostRuntime) -> Result<(), Fail> {
+fn a_file_is_made_written_and_recovered(rt: HostRuntime) -> Result<(), Fail> {
     let alloc = rt.alloc();
     let path = "journal_tests_file";
     let disk = FileDisk::new(rt, String::from_str(alloc, path)?);
-    assert_eq!(rt; recovery_of(alloc, disk, 1, 10), records(0));
-    fs::write(&rt, path, one_batch(alloc, &[bind(1)])?.as_slice())?;
+    assert!(rt; write_logon(alloc, disk)?);
+    let written = fs::read(&rt, path)?;
+    assert_eq!(rt; written, one_batch(alloc, &[logon()])?);
     let disk = FileDisk::new(rt, String::from_str(alloc, path)?);
     assert_eq!(rt; recovery_of(alloc, disk, 1, 10), records(1));
+    fs::write(&rt, path, one_batch(alloc, &[bind(1), logon()])?.as_slice())?;
+    let disk = FileDisk::new(rt, String::from_str(alloc, path)?);
+    assert_eq!(rt; recovery_of(alloc, disk, 1, 10), records(2));
     fs::remove_file(&rt, path)?;
     Ok(())
 }

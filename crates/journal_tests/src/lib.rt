@@ -22,6 +22,8 @@ mod images;
 #[cfg(test)]
 mod limits;
 #[cfg(test)]
+mod logons;
+#[cfg(test)]
 mod made;
 #[cfg(test)]
 mod ranges;

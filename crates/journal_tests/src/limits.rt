@@ -2,15 +2,10 @@
 
 ghost use Rattle.std.specs.Prelude.{None};
 
+use crate::logons::append_logon;
 use crate::recovering::{Recovery, recovery_of};
-use crate::rows::{MOMENT, Row, arrive, put_batch};
-use durable_journal::laws::session_texts_are_bodies;
-use durable_journal::{
-    AppendError, Disk, DiskFault, Journal, LONGEST_JOURNAL, RecoverError, recover,
-};
-use gate_io::{Bytes, NoMemory};
-use lease_core::{Entry, Record};
-use session_core::{Admin, admin_body};
+use crate::rows::{Row, arrive, put_batch};
+use durable_journal::{AppendError, Disk, DiskFault, LONGEST_JOURNAL, RecoverError, recover};
 use std::alloc::{AllocError, Global};
 use std::test::Fail;
 
@@ -161,28 +156,6 @@ impl Disk for Long {
     }
 }
 
-/// Appends a Logon with this HeartBtInt.
-fn append(
-    alloc: Global,
-    journal: &mut Journal<Long>,
-    heart: u32,
-) -> Result<Result<(), AppendError>, NoMemory> {
-    session_texts_are_bodies();
-    let admin = Admin::Logon {
-        heart,
-        reset: false,
-    };
-    let body = admin_body(alloc, &admin, 1)?;
-    let event = Record {
-        s: 0,
-        entry: Entry::Admin { number: 1 },
-        at: MOMENT,
-        body: Bytes::of(body),
-        expected: 1,
-    };
-    Ok(journal.append(event))
-}
-
 #[test]
 fn a_journal_past_the_limit_is_full(rt: HostRuntime) -> Result<(), Fail> {
     let alloc = rt.alloc();
@@ -198,7 +171,7 @@ fn a_journal_past_the_limit_is_full(rt: HostRuntime) -> Result<(), Fail> {
     let full = AppendError::Full {
         length: 1_073_741_825,
     };
-    assert_eq!(rt; append(alloc, &mut journal, 10)?, Err(full));
-    assert_eq!(rt; append(alloc, &mut journal, 9)?, Ok(()));
+    assert_eq!(rt; append_logon(alloc, &mut journal, 10)?, Err(full));
+    assert_eq!(rt; append_logon(alloc, &mut journal, 9)?, Ok(()));
     Ok(())
 }
