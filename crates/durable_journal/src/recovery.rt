@@ -51,6 +51,7 @@ pub fn recover<D: Disk>(
     ensures too_long { IfErr result (λ e. (n : ℕ) → e.0 ≡ RecoverError.TooLong n → IfSome (D.history disk) (λ told. (n ≡ length (bytes_of told)) × (LONGEST_JOURNAL < n))) }
     ensures short { OnOk result (IfSome (D.history disk) (λ told. length (bytes_of told) ≤ LONGEST_JOURNAL)) }
     ensures damaged { IfErr result (λ e. (at : ℕ) → e.0 ≡ RecoverError.BadJournal at → IfSome (D.history disk) (λ told. IsDamaged sessions leases (bytes_of told) at)) }
+    ensures damaged_short { IfErr result (λ e. (at : ℕ) → e.0 ≡ RecoverError.BadJournal at → IfSome (D.history disk) (λ told. length (bytes_of told) ≤ LONGEST_JOURNAL)) }
     // Whenever a crash comes, it leaves what could be left before, or a file that stands for the same.
     ensures any_moment { IfOk result (λ found. LeavesSame sessions leases (D.history disk) (D.history found.0.disk)) }
     ensures any_moment_err { IfErr result (λ e. LeavesSame sessions leases (D.history disk) (D.history e.1)) }
@@ -88,6 +89,7 @@ fn read_back<D: Disk>(
     ensures too_long { (n : ℕ) → IsErrOf result (RecoverError.TooLong n) → IfSome (D.history disk.old) (λ told. (n ≡ length (bytes_of told)) × (LONGEST_JOURNAL < n)) }
     ensures short { OnOk result (IfSome (D.history disk.old) (λ told. length (bytes_of told) ≤ LONGEST_JOURNAL)) }
     ensures damaged { (at : ℕ) → IsErrOf result (RecoverError.BadJournal at) → IfSome (D.history disk.old) (λ told. IsDamaged sessions leases (bytes_of told) at) }
+    ensures damaged_short { (at : ℕ) → IsErrOf result (RecoverError.BadJournal at) → IfSome (D.history disk.old) (λ told. length (bytes_of told) ≤ LONGEST_JOURNAL) }
     ensures any_moment { LeavesSame sessions leases (D.history disk.old) (D.history disk.new) }
     ensures faults_kept { D.faults disk.old ≤ D.faults disk.new }
 {
