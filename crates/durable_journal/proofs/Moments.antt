@@ -4,7 +4,7 @@ use Rattle.std.specs.Prelude.{max, IfSome}
 use Rattle.std.specs.Option.{option_map}
 use Rattle.std.proofs.lemmas.List.{take_at, drop_at, length-take-le}
 use Rattle.durable_journal.specs.Disk.{Step, Write, Sync, History, bytes_of, with_piece, after_step, IsTorn, AllImages, AllMoments, CrashesLeave, FailsToWrite}
-use Rattle.durable_journal.specs.Batches.{IsReadyFor, with_batch, IsBatchImage, BatchLeaves, HasBatchOnDisk, BatchStands}
+use Rattle.durable_journal.specs.Batches.{IsReadyFor, with_batch, IsBatchImage, BatchLeaves, HasBatchOnDisk, BatchStands, after_batch}
 
 pub torn_same : (at size : ℕ) (b : List ℕ) → IsTorn at size b b
 torn_same at size b = record { before = refl; behind = refl; no_shorter = omega arith; no_longer = omega arith }
@@ -147,3 +147,7 @@ moments_map P Q first older (step ∷ steps) f all = (λ image is. f image (all.
 
 pub leaves_map : (P Q : List ℕ → Type 0) (old new : History) → ((image : List ℕ) → P image → Q image) → CrashesLeave P old new → CrashesLeave Q old new
 leaves_map P Q old new f l = record { steps = l.steps; first = l.first; goes_on = l.goes_on; moments = moments_map P Q old.first old.steps l.steps f l.moments }
+
+pub all_steps : (gate : ℕ) (text : List ℕ) (o h1 h2 h3 h4 : Option History) → h1 ≡ wrote (gate + 1) (length text) text o → h2 ≡ synced h1 → h3 ≡ wrote gate 1 (1 ∷ []) h2 → h4 ≡ synced h3 → h4 ≡ option_map (after_batch gate text) o
+all_steps gate text None h1 h2 h3 h4 e1 e2 e3 e4 = e4 ∙ ap synced (e3 ∙ ap (wrote gate 1 (1 ∷ [])) (e2 ∙ ap synced e1))
+all_steps gate text (Some told) h1 h2 h3 h4 e1 e2 e3 e4 = e4 ∙ ap synced (e3 ∙ ap (wrote gate 1 (1 ∷ [])) (e2 ∙ ap synced e1))

@@ -265,7 +265,7 @@ rest_ready sessions leases gate batch (Some told) rest = record {
   synced = rest.synced;
 }
 
-sealed_is : (batch : List Record) (text sealed : List ℕ) → IsDraft batch text → sealed ≡ to_be_bytes w32 (length (drop 4 text)) ++ (drop 4 text ++ 0 ∷ []) → sealed ≡ batch_text batch ++ 0 ∷ []
+pub sealed_is : (batch : List Record) (text sealed : List ℕ) → IsDraft batch text → sealed ≡ to_be_bytes w32 (length (drop 4 text)) ++ (drop 4 text ++ 0 ∷ []) → sealed ≡ batch_text batch ++ 0 ∷ []
 sealed_is batch text sealed draft is =
     is ∙ ap (λ (l : List ℕ). to_be_bytes w32 (length l) ++ (l ++ 0 ∷ [])) draft.records ∙ sym (append_assoc (to_be_bytes w32 (length (records_text batch))) (records_text batch) (0 ∷ []))
 

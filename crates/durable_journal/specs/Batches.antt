@@ -1,6 +1,6 @@
 -- What a batch leaves on a disk as it is written.
 use Rattle.std.specs.Prelude.{◌≡◌, ◌⊎◌, ℕ, ◌+◌, ◌<◌, List, [], ◌∷◌, length, Option, Some, None}
-use Rattle.durable_journal.specs.Disk.{History, bytes_of, with_piece, IsTorn, IsSynced, CrashesLeave}
+use Rattle.durable_journal.specs.Disk.{Write, Sync, History, bytes_of, after_step, with_piece, IsTorn, IsSynced, CrashesLeave}
 
 -- a gate stands at the place, and all is on the disk
 pub record IsReadyFor (gate : ℕ) (told : History) : Type 0 where
@@ -14,6 +14,12 @@ with_batch gate text bytes = with_piece bytes (gate + 1) text
 -- and with the gate open
 abbrev pub with_open_gate : ℕ → List ℕ → List ℕ → List ℕ
 with_open_gate gate text bytes = with_piece (with_batch gate text bytes) gate (1 ∷ [])
+
+-- The batch is written behind its gate, which is opened once all of the batch is on the disk: two writes and two syncs.
+abbrev pub after_batch : ℕ → List ℕ → History → History
+after_batch gate text told =
+    let written = after_step Sync (after_step (Write (gate + 1) (length text) text) told) in
+    after_step Sync (after_step (Write gate 1 (1 ∷ [])) written)
 
 -- A crash leaves the batch torn and all before it as it was, or the gate torn and all else as it is then.
 abbrev pub IsBatchImage : ℕ → List ℕ → List ℕ → List ℕ → Type 0

@@ -1,13 +1,15 @@
 //! The journal: records wait in a batch, and a sync puts the batch on the disk.
 
-ghost use Rattle.std.specs.Prelude.{◌≡◌, ◌≤◌, ◌+◌, ◌<◌, ◌↔◌, ◌++◌, ◌∷◌, ℕ, List, [], length, drop, Err, IfOk, IfErr, OnOk, OnErr, IsOk};
+ghost use Rattle.std.specs.Prelude.{◌≡◌, ◌≢◌, ◌≤◌, ◌+◌, ◌<◌, ◌↔◌, ◌++◌, ◌∷◌, ℕ, List, [], length, drop, Err, IfOk, IfErr, OnOk, OnErr, IsOk};
 ghost use Rattle.std.specs.Int.{to_be_bytes, w32};
+ghost use Rattle.std.specs.Option.{option_map};
 ghost use Rattle.std.specs.Vec.{vec_len, vec_capacity};
 ghost use Rattle.gate_io.specs.Counts.{HasRisen};
 ghost use Rattle.lease_core.specs.declared.record.Record.{Record};
 ghost use Rattle.durable_journal.specs.Disk.{CrashesLeaveIn};
 ghost use Rattle.durable_journal.specs.Records.{IsRecord};
-ghost use Rattle.durable_journal.specs.Files.{AreRuns};
+ghost use Rattle.durable_journal.specs.Batches.{after_batch};
+ghost use Rattle.durable_journal.specs.Files.{AreRuns, batch_text};
 ghost use Rattle.durable_journal.specs.Journal.{Keeps, file_end, IsBeforeOrBehind};
 
 use crate::batches::LENGTH;
@@ -92,6 +94,8 @@ impl<D: Disk> Journal<D> {
         ensures leases { IfOk result (λ journal. journal.leases ≡ self.leases) }
         // An empty batch makes no call of the disk.
         ensures idle { self.batch ≡ [] → IfOk result (λ journal. journal.disk ≡ self.disk) × IsOk result }
+        // The batch is written with a closed gate at its end and synced, and so is then the gate.
+        ensures steps { IfOk result (λ journal. self.batch ≢ [] → D.history journal.disk ≡ option_map (after_batch self.gate (batch_text self.batch ++ 0 ∷ [])) (D.history self.disk)) }
         ensures any_moment { IfOk result (λ journal. (kept : List Record) → Keeps D.history self kept → CrashesLeaveIn (IsBeforeOrBehind self.sessions self.leases kept self.batch) (D.history self.disk) (D.history journal.disk)) }
         ensures any_moment_err { IfErr result (λ e. (kept : List Record) → Keeps D.history self kept → CrashesLeaveIn (IsBeforeOrBehind self.sessions self.leases kept self.batch) (D.history self.disk) (D.history e.1)) }
         ensures fault_counted { IfErr result (λ e. HasRisen (D.faults self.disk) (D.faults e.1)) }

@@ -1,10 +1,11 @@
 //! The two writes of a batch.
 
 ghost use Rattle.std.specs.Prelude.{◌≡◌, ◌+◌, ◌^◌, ◌<◌, ◌≤◌, ◌∷◌, [], length, max, OnOk, OnErr, IfSome};
+ghost use Rattle.std.specs.Option.{option_map};
 ghost use Rattle.std.specs.Vec.{vec_len, vec_capacity};
 ghost use Rattle.gate_io.specs.Counts.{HasRisen};
 ghost use Rattle.durable_journal.specs.Disk.{with_piece};
-ghost use Rattle.durable_journal.specs.Batches.{IsReadyFor, BatchLeaves, BatchStands};
+ghost use Rattle.durable_journal.specs.Batches.{IsReadyFor, BatchLeaves, BatchStands, after_batch};
 
 use crate::disk::{Disk, DiskFault};
 
@@ -20,6 +21,7 @@ pub(crate) fn write_batch<D: Disk>(disk: &mut D, gate: u64, text: &[u8]) -> Resu
     requires ready { IfSome (D.history disk.old) (IsReadyFor gate) }
     requires small { gate + 1 < 2 ^ 64 }
     ensures stands { OnOk result (BatchStands gate text.now (D.history disk.old) (D.history disk.new)) }
+    ensures steps { OnOk result (D.history disk.new ≡ option_map (after_batch gate text.now) (D.history disk.old)) }
     ensures any_moment { BatchLeaves gate text.now (D.history disk.old) (D.history disk.new) }
     ensures fault_counted { OnErr result (HasRisen (D.faults disk.old) (D.faults disk.new)) }
     ensures faults_kept { D.faults disk.old ≤ D.faults disk.new }

@@ -1,11 +1,12 @@
-use Rattle.std.proofs.Common.{◌≡◌, inl, ◌+◌, ◌<◌, ◌++◌, [], List, ℕ, length, sym, ap, subst, rules, arith}
+use Rattle.std.proofs.Common.{◌≡◌, inl, ◌+◌, ◌<◌, ◌++◌, ◌∷◌, [], List, ℕ, length, sym, ap, subst, rules, arith}
 use Rattle.std.specs.Prelude.{IfSome}
 use Rattle.lease_core.specs.declared.record.Record.{Record}
 use Rattle.durable_journal.specs.Disk.{CrashesLeaveIn, bytes_of}
-use Rattle.durable_journal.specs.Files.{Stands}
-use Rattle.durable_journal.specs.Batches.{BatchLeaves, BatchStands}
+use Rattle.durable_journal.specs.Files.{Stands, batch_text}
+use Rattle.std.specs.Option.{option_map}
+use Rattle.durable_journal.specs.Batches.{BatchLeaves, BatchStands, after_batch}
 use Rattle.durable_journal.specs.Journal.{JournalState, Keeps, IsBeforeOrBehind, IsAtRest, IsDraft, TellsThat}
-use Rattle.durable_journal.proofs.Rests.{rest_written, kept_written, moments_written, idle_moments, draft_none, within_some}
+use Rattle.durable_journal.proofs.Rests.{rest_written, kept_written, moments_written, idle_moments, draft_none, within_some, sealed_is}
 use Rattle.durable_journal.proofs.journal.Journal.sync.Goals as goal
 
 pub returns-then-is_empty-clause-any_moment : goal.returns-then-is_empty-clause-any_moment
@@ -56,3 +57,13 @@ returns-clause-any_moment g c =
     subst (λ (v : JournalState g.row.D.Denot). (kept : List Record) → Keeps h v kept → CrashesLeaveIn (IsBeforeOrBehind v.sessions v.leases kept v.batch) (h v.disk) (h c.write_batch.new.disk)) c.self.view_is
     (moments_written i.sessions i.leases i.gate i.waiting.items i.text.items c.seal.new.text.items c.self.invariant.1 c.seal.ensures.text (h i.disk) (h c.write_batch.new.disk) c.self.invariant.0
     (subst (λ (l : List ℕ). BatchLeaves i.gate l (h i.disk) (h c.write_batch.new.disk)) c.as_slice.ensures.value c.in_default.ensures.any_moment))
+
+pub returns-clause-steps : goal.returns-clause-steps
+returns-clause-steps g c = λ some.
+    let h = g.D.Disk.history in
+    let i = c.self.inside in
+    let new = h c.write_batch.new.disk in
+    let sealed = c.seal.new.text.items in
+    let steps = subst (λ (l : List ℕ). new ≡ option_map (after_batch i.gate l) (h i.disk)) c.as_slice.ensures.value c.in_default.ensures.steps in
+    let told = subst (λ (l : List ℕ). new ≡ option_map (after_batch i.gate l) (h i.disk)) (sealed_is i.waiting.items i.text.items sealed c.self.invariant.1 c.seal.ensures.text) steps in
+    subst (λ (v : JournalState g.row.D.Denot). new ≡ option_map (after_batch v.gate (batch_text v.batch ++ 0 ∷ [])) (h v.disk)) c.self.view_is told
