@@ -5,6 +5,7 @@ pub mod Kept
 pub mod Likes
 pub mod Moments
 pub mod Once
+pub mod Plain
 pub mod Rests
 pub mod Runs
 pub mod Sessions

@@ -1,5 +1,6 @@
 -- What the contracts speak of.
 pub mod Admins
+pub mod Answers
 pub mod Batches
 pub mod Disk
 pub mod FileDisk

@@ -5,10 +5,13 @@ ghost use Rattle.std.specs.List.{AllByRecursion};
 ghost use Rattle.session_core.specs.Admin.{admin_text};
 ghost use Rattle.session_core.specs.declared.acts.Admin.{Admin};
 ghost use Rattle.lease_core.specs.declared.record.Record.{Record};
+ghost use Rattle.durable_journal.specs.Answers.{AnswersArePlain};
 ghost use Rattle.durable_journal.specs.Disk.{History, IsSynced, after_step, Sync};
 ghost use Rattle.durable_journal.specs.Files.{Stands, IsDamaged, IsLawful, AreRuns};
 ghost use Rattle.durable_journal.specs.Records.{IsAdminBody, IsPlainAdmin};
 ghost use Rattle.durable_journal.specs.RecordText.{record_text};
+
+use fix_fields::laws::{reads_as_spelled, texts_are_plain};
 
 /// A file stands for at most one list of records, and none that stands for one is damaged.
 pub fn files_stand_once()
@@ -33,6 +36,14 @@ pub fn beginnings_are_runs()
 pub fn session_texts_are_bodies()
     ensures { (admin : Admin) (number : ℕ) → IsPlainAdmin admin → IsAdminBody number (admin_text admin number) }
 {}
+
+/// The texts with which the session machine answers a message are ones that can be.
+pub fn answers_are_plain()
+    ensures { AnswersArePlain }
+{
+    reads_as_spelled();
+    texts_are_plain();
+}
 
 /// A record is read in one way, whatever stands behind it.
 #[tactic(auto, using(crate::proofs::Once::record_once))]
