@@ -8,6 +8,7 @@
 
 mod binding;
 mod board;
+pub mod laws;
 mod leases;
 mod messages;
 mod writing;

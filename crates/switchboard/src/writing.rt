@@ -1,6 +1,6 @@
 //! What is to be written on the connections.
 
-ghost use Rattle.std.specs.Prelude.{◌≡◌, ◌<◌, ◌≤◌, length, take, OnOk, true, false};
+ghost use Rattle.std.specs.Prelude.{◌≡◌, ◌<◌, ◌≤◌, length, take, OnErr, OnOk, true, false};
 ghost use Rattle.std.specs.List.{All};
 ghost use Rattle.connection_core.specs.Outgoing.{HasMore, after_preparing, after_preparing_first, after_writing, waiting_text};
 ghost use Rattle.resend_plan.specs.Wire.{NamesEntry};
@@ -28,6 +28,11 @@ impl Switchboard {
         ensures answered { (connection_at self.old k).answered ≡ true → OnOk result ((connection_at self.new k).out.outgoing ≡ after_preparing (names_at self.old s) (book_at self.old s).outbound limit (connection_at self.old k).out.outgoing) }
         ensures unanswered { (connection_at self.old k).answered ≡ false → OnOk result ((connection_at self.new k).out.outgoing ≡ after_preparing_first (names_at self.old s) (book_at self.old s).outbound (connection_at self.old k).out.outgoing) }
         ensures more { HasMore (names_at self.old s) (book_at self.old s).outbound (connection_at self.old k).out.outgoing (connection_at self.new k).out.outgoing }
+        // Without memory no text is made that wasn't asked for.
+        ensures unanswered_err { (connection_at self.old k).answered ≡ false → OnErr result ((connection_at self.new k).out.outgoing ≡ (connection_at self.old k).out.outgoing) }
+        ensures again { (connection_at self.old k).answered ≡ true
+            → after_preparing (names_at self.old s) (book_at self.old s).outbound limit (connection_at self.new k).out.outgoing
+            ≡ after_preparing (names_at self.old s) (book_at self.old s).outbound limit (connection_at self.old k).out.outgoing }
     {
         let session = &self.sessions[s];
         self.connections[k].prepare(alloc, session.outbound(), session.written_names(), limit)

@@ -11,3 +11,6 @@ returns-clause-unanswered c = let e = names_are _ c.written_names.result.now c.w
 
 pub returns-clause-more : goal.returns-clause-more
 returns-clause-more c = let e = names_are _ c.written_names.result.now c.written_names.ensures.names in grind (arith, common_steps)
+
+pub returns-clause-again : goal.returns-clause-again
+returns-clause-again c = let e = names_are _ c.written_names.result.now c.written_names.ensures.names in grind (arith, common_steps)
