@@ -1,0 +1,28 @@
+-- What the tests' desk knows of its session and of its connections.
+use Rattle.std.specs.Prelude.{◌≡◌, ◌≢◌, ◌≤◌, ℕ, Bool, true, None, IsSome}
+use Rattle.connection_core.specs.Connection.{ConnectionState}
+use Rattle.gate_io.specs.declared.clocks.TheConstants.{LAST_MOMENT}
+use Rattle.lease_core.specs.State.{state_of}
+use Rattle.session_core.specs.declared.phases.Phase.TheVariants.{Off}
+use Rattle.session_book.specs.Book.{Book}
+use Rattle.book_desk.specs.Waiting.{CanBeWritten}
+
+-- where a connection stands, the session is bound to it and isn't off
+pub record Stands (book : Book) : Type 0 where
+  pub bound : IsSome (state_of book.entries).bound
+  pub on : book.machine.phase ≢ Off
+
+-- a session that accepts connections, with the last one and the one before that
+pub record Shop : Type 0 where
+  pub book : Book
+  pub connection : ConnectionState
+  pub past : ConnectionState
+  pub stands : Bool
+  pub moment : ℕ
+
+pub record IsShop (s : Shop) : Type 0 where
+  pub accepts : s.book.machine.dials ≡ None
+  pub standing : s.stands ≡ true → Stands s.book
+  pub here : CanBeWritten s.book s.connection.out.outgoing
+  pub there : CanBeWritten s.book s.past.out.outgoing
+  pub within : s.moment ≤ LAST_MOMENT

@@ -1,0 +1,357 @@
+//! A session's book with the last connection and the one before that, of which each call is made
+//! only where it may be.
+ghost use Rattle.std.specs.Prelude.{◌≡◌, ◌≤◌, ◌<◌, IfOk, IfSome, None, false, length, true};
+ghost use Rattle.std.specs.List.{All};
+ghost use Rattle.lease_core.specs.State.{state_of};
+ghost use Rattle.resend_plan.specs.Fit.{IsFit};
+ghost use Rattle.session_core.specs.Runs.{binds};
+ghost use Rattle.book_desk.specs.Waiting.{CanBeWritten};
+
+use crate::texts::{T, soh};
+use book_desk::can_show;
+use connection_core::{ConnRecord, Connection, OwnedPiece, items_stay_queued};
+use fix_fields::{FieldError, Fields};
+use gate_io::{Bytes, LAST_MOMENT, NoMemory};
+use lease_core::{MOST_LIBRARIES, Reply, Shown, Standing, Word};
+use session_book::SessionBook;
+use session_core::{Cause, MOST_SESSIONS, Names, route};
+use std::alloc::Global;
+use std::collections::VecDeque;
+use std::marker::Model;
+use std::mem;
+
+/// How long the session waits for an heir, in milliseconds.
+const HOLD: u64 = 2_000;
+
+/// The session GATE/BUYER with its connections, of which the session is bound to the last where that
+/// stands.
+#[derive(Drop)]
+pub struct Desk {
+    book: SessionBook,
+    connection: Connection,
+    past: Connection,
+    stands: bool,
+    moment: u64,
+    count: u32,
+    records: Vec<ConnRecord>,
+}
+
+impl Model for Desk {
+    ghost use Rattle.book_tests.specs.Shop.{Shop, IsShop};
+    ghost use Rattle.std.specs.Coded.{codes};
+    ghost use Rattle.seq_gaps.specs.Line.{line_code};
+    ghost use Rattle.session_core.specs.contracts.tasks.Task as task;
+
+    ghost Value = { Shop };
+
+    ghost coded = { Prim.hlevel (codes, line_code task.the_row.coded) };
+
+    ghost view = { λ d. record { book = d.book.book; connection = d.connection; past = d.past; stands = d.stands; moment = d.moment } };
+
+    ghost invariant = { λ d. IsShop (record { book = d.book.book; connection = d.connection; past = d.past; stands = d.stands; moment = d.moment }) };
+}
+
+impl Desk {
+    pub fn new(alloc: Global, leases: u32) -> Result<Desk, NoMemory> {
+        items_stay_queued();
+        let us = Vec::from_slice(alloc, b"GATE")?;
+        let them = Vec::from_slice(alloc, b"BUYER")?;
+        Ok(Desk {
+            book: SessionBook::new(alloc, us, them, leases)?,
+            connection: Connection::accepted(alloc, 0, T)?,
+            past: Connection::accepted(alloc, 0, T)?,
+            stands: false,
+            moment: T,
+            count: 0,
+            records: Vec::new(alloc),
+        })
+    }
+
+    pub fn book(&self) -> &SessionBook {
+        &self.book
+    }
+
+    /// The last connection.
+    pub fn connection(&self) -> &Connection {
+        &self.connection
+    }
+
+    /// The clock stands at so many milliseconds past the morning's beginning.
+    pub fn set(&mut self, past: u64) {
+        self.moment = T.saturating_add(past).min(LAST_MOMENT);
+    }
+
+    /// The next connection is accepted, if the session is bound to none.
+    pub fn connect(&mut self, alloc: Global) -> Result<bool, NoMemory> {
+        items_stay_queued();
+        if self.book.bound().is_some() {
+            return Ok(false);
+        }
+        self.records.reserve(1)?;
+        let next = Connection::accepted(alloc, self.count, self.moment)?;
+        let last = mem::replace(&mut self.connection, next);
+        let gone = mem::replace(&mut self.past, last);
+        self.records.push(gone.into_record())?;
+        self.stands = false;
+        self.count = self.count.saturating_add(1);
+        Ok(true)
+    }
+
+    /// Bytes come on the last connection, if it stands and has room for them.
+    pub fn take(&mut self, alloc: Global, bytes: &[u8]) -> Result<bool, NoMemory> {
+        if self.connection.has_ended() || bytes.len() > self.connection.room() {
+            return Ok(false);
+        }
+        self.connection.take_in(bytes)?;
+        self.handle_all(alloc)?;
+        Ok(true)
+    }
+
+    /// Each piece that is there is handled, until the connection ends.
+    fn handle_all(&mut self, alloc: Global) -> Result<(), NoMemory> {
+        while let Some(piece) = self.next(alloc)? {
+            if let OwnedPiece::Good(body) = piece {
+                self.handle(alloc, body)?;
+            }
+        }
+        Ok(())
+    }
+
+    /// The next piece of the last connection, or None where it ended.
+    fn next(&mut self, alloc: Global) -> Result<Option<OwnedPiece>, NoMemory>
+        ensures { IfOk result (λ given. IfSome given (λ piece. length self.new.connection.held < length self.old.connection.held)) }
+    {
+        if self.connection.has_ended() {
+            return Ok(None);
+        }
+        let piece = self.connection.next(alloc)?;
+        Ok(piece)
+    }
+
+    /// A good piece comes.
+    fn handle(&mut self, alloc: Global, body: Vec<u8>) -> Result<(), NoMemory>
+        ensures held { self.new.connection.held ≡ self.old.connection.held }
+    {
+        let end = if self.stands {
+            self.receive(alloc, body)?
+        } else {
+            self.first(alloc, body)?
+        };
+        if let Some(cause) = end {
+            self.end(cause)?;
+        }
+        Ok(())
+    }
+
+    fn receive(&mut self, alloc: Global, body: Vec<u8>) -> Result<Option<Cause>, NoMemory>
+        requires { self.old.stands ≡ true }
+        ensures held { self.new.connection.held ≡ self.old.connection.held }
+    {
+        let out = self.connection.outbox();
+        book_desk::receive(alloc, &mut self.book, out, body, self.moment)
+    }
+
+    /// The first good piece of a connection binds it to the session, or ends it.
+    fn first(&mut self, alloc: Global, body: Vec<u8>) -> Result<Option<Cause>, NoMemory>
+        requires { self.old.stands ≡ false }
+        ensures held { self.new.connection.held ≡ self.old.connection.held }
+    {
+        let names = names(alloc)?;
+        let why = why_refused(alloc, body.as_slice(), names.as_slice())?;
+        if why.is_some() {
+            return Ok(why);
+        }
+        if let Some(connection) = self.book.bound() {
+            return Ok(Some(Cause::Duplicate { connection }));
+        }
+        self.own();
+        self.bind(alloc, body, names)
+    }
+
+    /// The last connection is the session's.
+    fn own(&mut self)
+        ensures { self.new ≡ record self.old { connection = record self.old.connection { session = self.new.connection.session } } }
+    {
+        if self.connection.session().is_none() {
+            self.connection.bind(0);
+        }
+    }
+
+    fn bind(
+        &mut self,
+        alloc: Global,
+        body: Vec<u8>,
+        names: Vec<Names>,
+    ) -> Result<Option<Cause>, NoMemory>
+        requires unbound { (state_of self.old.book.entries).bound ≡ None }
+        requires routed { binds names.items body.items ≡ true }
+        requires before { self.old.stands ≡ false }
+        ensures held { self.new.connection.held ≡ self.old.connection.held }
+    {
+        let out = self.connection.outbox();
+        let number = self.count.saturating_sub(1);
+        let end = book_desk::bind(alloc, &mut self.book, out, number, body, self.moment)?;
+        self.stands = end.is_none();
+        Ok(end)
+    }
+
+    /// The last connection ends.
+    pub fn end(&mut self, cause: Cause) -> Result<(), NoMemory>
+        ensures held { self.new.connection.held ≡ self.old.connection.held }
+    {
+        self.connection.end(cause);
+        self.stands = false;
+        if let Some(c) = self.book.bound() {
+            book_desk::leave(&mut self.book, c)?;
+        }
+        Ok(())
+    }
+
+    /// The clock asks the session what is due.
+    pub fn tick(&mut self, alloc: Global) -> Result<(), NoMemory> {
+        let out = self.connection.outbox();
+        let end = book_desk::tick(alloc, &mut self.book, out, self.moment)?;
+        if let Some(cause) = end {
+            self.end(cause)?;
+        }
+        Ok(())
+    }
+
+    /// A library asks for the session.
+    pub fn request(&mut self, library: u8, nr: u32, from: u64) -> Result<Option<Reply>, NoMemory> {
+        if library < 1 || library > MOST_LIBRARIES {
+            return Ok(None);
+        }
+        Ok(Some(book_desk::request(&mut self.book, library, nr, from)?))
+    }
+
+    /// The heir didn't come, if one is waited for.
+    pub fn lapse(&mut self) -> Result<bool, NoMemory> {
+        if self.book.reserved().is_none() {
+            return Ok(false);
+        }
+        book_desk::lapse(&mut self.book)?;
+        Ok(true)
+    }
+
+    fn until(&self) -> u64 {
+        self.moment.saturating_add(HOLD).min(LAST_MOMENT)
+    }
+
+    /// The session is gathered, if the word may be shown and has so many sends.
+    pub fn show(
+        &mut self,
+        alloc: Global,
+        w: Word,
+        mut bodies: VecDeque<Bytes>,
+    ) -> Result<Option<Shown>, NoMemory>
+        requires { All IsFit bodies.items }
+    {
+        let until = self.until();
+        let sends = w.count.saturating_sub(self.book.word().count);
+        if !can_show(&self.book, w) || bodies.len() != sends as usize {
+            return Ok(None);
+        }
+        let out = self.connection.outbox();
+        book_desk::reserve(alloc, &mut self.book, out, sends)?;
+        let shown = book_desk::show(
+            alloc,
+            &mut self.book,
+            out,
+            w,
+            &mut bodies,
+            self.moment,
+            until,
+        );
+        Ok(Some(shown))
+    }
+
+    /// The session is taken back, if the old word can have stood there.
+    pub fn time_out(
+        &mut self,
+        alloc: Global,
+        old: Word,
+        mut bodies: VecDeque<Bytes>,
+    ) -> Result<Option<Shown>, NoMemory>
+        requires { All IsFit bodies.items }
+    {
+        let until = self.until();
+        let sends = old.count.saturating_sub(self.book.word().count);
+        if !can_show(&self.book, old) || bodies.len() != sends as usize {
+            return Ok(None);
+        }
+        if matches!(old.standing, Standing::Revoked) {
+            return Ok(None);
+        }
+        let out = self.connection.outbox();
+        book_desk::reserve(alloc, &mut self.book, out, sends)?;
+        let shown = book_desk::time_out(
+            alloc,
+            &mut self.book,
+            out,
+            old,
+            &mut bodies,
+            self.moment,
+            until,
+        );
+        Ok(Some(shown))
+    }
+
+    /// At most n bytes of what waits on the last connection are written. They are answered.
+    pub fn write(&mut self, alloc: Global, n: usize) -> Result<Vec<u8>, NoMemory> {
+        write(alloc, &self.book, &mut self.connection, n)
+    }
+
+    /// The same of the connection before it.
+    pub fn write_past(&mut self, alloc: Global, n: usize) -> Result<Vec<u8>, NoMemory> {
+        write(alloc, &self.book, &mut self.past, n)
+    }
+
+    /// What the run leaves: the session's book, and the records of its connections.
+    pub fn finish(self) -> Result<(SessionBook, Vec<ConnRecord>), NoMemory> {
+        let mut records = self.records;
+        records.push(self.past.into_record())?;
+        records.push(self.connection.into_record())?;
+        Ok((self.book, records))
+    }
+}
+
+/// Why a first message binds no session of these names.
+fn why_refused(alloc: Global, body: &[u8], names: &[Names]) -> Result<Option<Cause>, NoMemory>
+    requires { length names.now ≤ MOST_SESSIONS }
+    ensures { IfOk result (λ why. why ≡ None → binds names.now body.now ≡ true) }
+{
+    match Fields::read(alloc, body) {
+        Ok(fields) => Ok(route(&fields, names).err()),
+        Err(FieldError::OutOfMemory) => Err(NoMemory::OutOfMemory),
+        Err(_) => Ok(Some(Cause::NotLogon)),
+    }
+}
+
+fn names(alloc: Global) -> Result<Vec<Names>, NoMemory>
+    ensures { IfOk result (λ names. length names.items ≡ 1) }
+{
+    let mut names = Vec::new(alloc);
+    names.push(Names {
+        us: Bytes::of(soh(alloc, "GATE")?),
+        them: Bytes::of(soh(alloc, "BUYER")?),
+    })?;
+    Ok(names)
+}
+
+/// At most n bytes of what waits on a connection are written. They are answered.
+fn write(
+    alloc: Global,
+    book: &SessionBook,
+    connection: &mut Connection,
+    n: usize,
+) -> Result<Vec<u8>, NoMemory>
+    requires written { CanBeWritten book.now.book connection.old.out.outgoing }
+    ensures written { CanBeWritten book.now.book connection.new.out.outgoing }
+    ensures out { connection.new ≡ record connection.old { out = connection.new.out } }
+{
+    book_desk::prepare(alloc, book, connection, n)?;
+    let bytes = Vec::from_slice(alloc, connection.outbox().waiting(n))?;
+    book_desk::write(book, connection, n);
+    Ok(bytes)
+}
