@@ -1,5 +1,5 @@
 use Rattle.std.proofs.lemmas.Bool.{false≢true}
-use Rattle.std.proofs.Common.{◌≡◌, [], ap, sym, subst, ◌∙◌}
+use Rattle.std.proofs.Common.{[], ap, sym, subst, ◌∙◌}
 use Rattle.connection_core.specs.Connection.{ConnectionState}
 use Rattle.connection_core.specs.Items.{AreItemsOf}
 use Rattle.book_desk.specs.Waiting.{CanBeWritten, written_names}
