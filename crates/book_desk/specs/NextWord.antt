@@ -1,5 +1,5 @@
 -- Which words may be shown to a registry, as far as its own word tells it.
-use Rattle.std.specs.Prelude.{ℕ, ◌==◌, ◌&&◌, ◌||◌, not, nat_le, Bool}
+use Rattle.std.specs.Prelude.{◌==◌, ◌&&◌, ◌||◌, not, nat_le, Bool}
 use Rattle.lease_core.specs.declared.limits.TheConstants.{MOST_LIBRARIES}
 use Rattle.lease_core.specs.declared.word.Word.{Word}
 use Rattle.lease_core.specs.Lines.{is_released}

@@ -1,5 +1,5 @@
 -- What is so of a session's book and of the connections on which its messages wait.
-use Rattle.std.specs.Prelude.{◌≡◌, List}
+use Rattle.std.specs.Prelude.{List}
 use Rattle.connection_core.specs.Items.{AreItemsOf}
 use Rattle.connection_core.specs.Outgoing.{Outgoing}
 use Rattle.resend_plan.specs.declared.item.Names2.{Names2}

@@ -1,4 +1,4 @@
-use Rattle.std.proofs.Common.{◌≡◌, length, None}
+use Rattle.std.proofs.Common.{◌≡◌, length}
 use Rattle.connection_tests.proofs.taking.drain.Given as goal
 
 -- it stands, and fewer bytes are held after each piece

@@ -1,4 +1,4 @@
-use Rattle.std.proofs.Common.{◌≡◌, ◌-◌, ◌≤◌, length, IsNone}
+use Rattle.std.proofs.Common.{◌-◌, ◌≤◌, length, IsNone}
 use Rattle.connection_core.specs.Connection.{room}
 use Rattle.connection_tests.proofs.taking.take_all.Given as goal
 
