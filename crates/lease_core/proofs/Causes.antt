@@ -115,3 +115,13 @@ module _ (limit : ℕ) (s : State) (library from : ℕ) where
     | missing can left past why ↦ (λ r. (can, left, past), λ c. reply_is _ why)
     | granted can left there why ↦ let is = reply_is _ why in (λ r. absurd cc, λ c. absurd (omega (arith, there, c.2)))
   ]
+
+-- what a granted request found
+pub granted_finds : (limit : ℕ) (s : State) (library from lease start : ℕ) → reply_to limit s library from ≡ ToGranted lease start → (owner_of s ≡ 0) × (lease_of s ≢ limit) × (lease ≡ lease_of s + 1) × (start ≡ s.inbound) × (from ≤ s.inbound)
+granted_finds limit s library from lease start is = elim (outcome limit s library from) [
+  | owned active why ↦ let other = ap (reply_by s) why in absurd (cc)
+  | kept_for heir until free reserved other why ↦ let other = ap (reply_by s) why in absurd (cc)
+  | spent can same why ↦ let other = ap (reply_by s) why in absurd (cc)
+  | missing can left past why ↦ let other = ap (reply_by s) why in absurd (cc)
+  | granted can left there why ↦ let other = ap (reply_by s) why in (can.nobody_owns, left, (cc), (cc), there)
+]

@@ -1,18 +1,19 @@
 -- What holds of every list of entries.
-use Rattle.std.specs.Prelude.{◌≡◌, ℕ, ◌^◌, ◌<◌, ◌≤◌, ◌↔◌, ◌⊎◌, List, [], ◌∷◌, ◌++◌, length, fold}
+use Rattle.std.specs.Prelude.{◌≡◌, ℕ, ◌+◌, ◌^◌, ◌<◌, ◌≤◌, ◌↔◌, ◌⊎◌, List, [], ◌∷◌, ◌++◌, length, fold}
 use Rattle.lease_core.specs.declared.entry.Entry.{Entry}
 use Rattle.lease_core.specs.declared.lease.Ending.TheVariants.{Running}
 use Rattle.lease_core.specs.declared.lease.Lease.{Lease}
 use Rattle.lease_core.specs.declared.lease.Line.{Line}
 use Rattle.lease_core.specs.declared.limits.TheConstants.{MOST_LIBRARIES}
+use Rattle.lease_core.specs.declared.messages.Reply.TheVariants.{Granted as ToGranted}
 use Rattle.lease_core.specs.declared.word.Standing.{Standing}
 use Rattle.lease_core.specs.declared.word.Word.{Word}
 use Rattle.lease_core.specs.State.{state_of, state_after, owner_of, lease_of, with_last, last_or}
 use Rattle.lease_core.specs.Runs.{IsNext, IsRun, IsRunFrom}
-use Rattle.lease_core.specs.Lines.{lines_of, lines_after, entries_after_word, raised, entries_after_hold, entries_after_timeout, taken_back, word_of, IsShown}
+use Rattle.lease_core.specs.Lines.{lines_of, lines_after, entries_after_word, raised, entries_after_hold, entries_after_timeout, last_line, taken_back, word_of, IsShown}
 use Rattle.lease_core.specs.Showable.{IsShowable, IsOwned, CanTimeOut, owner_by}
 use Rattle.lease_core.specs.Deeds.{deeds_of, deeds_told, deeds_told_of, deeds_of_library}
-use Rattle.lease_core.specs.Steps.{IsActive}
+use Rattle.lease_core.specs.Steps.{IsActive, IsLibrary, reply_to}
 use Rattle.lease_core.specs.Word.{number_of, word_in, HasBothFlags}
 use Rattle.lease_core.specs.Holdings.{holdings_of, AreAdjoining}
 
@@ -79,6 +80,22 @@ LinesTellLease = (entries : List Entry) → length (lines_of entries) ≡ lease_
 -- the lines with one entry more
 abbrev pub LinesGoOn : Type 0
 LinesGoOn = (entries : List Entry) (e : Entry) → lines_of (entries ++ e ∷ []) ≡ lines_after (lines_of entries) e
+
+-- the last lease of a lawful journal is a library's
+abbrev pub LeasesHaveLibraries : Type 0
+LeasesHaveLibraries = (limit : ℕ) (entries : List Entry) → IsRun limit entries → 0 < length (lines_of entries) → IsLibrary (last_line (lines_of entries)).library
+
+-- A request is granted where no library has the session, a lease is left and the replay begins within the inbound log. The lease is the next one.
+pub record GrantsIn (limit : ℕ) (entries : List Entry) (from lease start : ℕ) : Type 0 where
+  pub nobody : owner_by (lines_of entries) ≡ 0
+  pub left : length (lines_of entries) < limit
+  pub next : lease ≡ length (lines_of entries) + 1
+  pub end : start ≡ (state_of entries).inbound
+  pub within : from ≤ (state_of entries).inbound
+
+abbrev pub GrantsFindNobody : Type 0
+GrantsFindNobody = (limit : ℕ) (entries : List Entry) (library from lease start : ℕ) → IsRun limit entries
+    → reply_to limit (state_of entries) library from ≡ ToGranted lease start → GrantsIn limit entries from lease start
 
 -- and with a list of entries more
 abbrev pub LinesGoOnOver : Type 0

@@ -1,6 +1,6 @@
 //! What holds of every list of entries and of every word, each law as the clause of a function
 //! that does nothing.
-ghost use Rattle.lease_core.specs.Laws.{HoldingsAdjoin, OneOwner, LinesAreRaised, LinesAreHeld, LinesAreTakenBack, LinesGoOn, LinesGoOnOver, LinesTellOwner, LinesTellLease, WordsAreShown, WordsAreShowable, WordsCanTimeOut, WordsAreRead, WordsAreWritten, PushedIsLast, PushedIsChanged, DeedsAreTold, LibraryDeedsAreTold, EntriesDecide, EntriesDecideOver, RunsGoOn, RunsGoOnOver};
+ghost use Rattle.lease_core.specs.Laws.{HoldingsAdjoin, OneOwner, LinesAreRaised, LinesAreHeld, LinesAreTakenBack, LinesGoOn, LinesGoOnOver, LinesTellOwner, LinesTellLease, WordsAreShown, WordsAreShowable, WordsCanTimeOut, WordsAreRead, WordsAreWritten, PushedIsLast, PushedIsChanged, DeedsAreTold, LibraryDeedsAreTold, EntriesDecide, EntriesDecideOver, GrantsFindNobody, LeasesHaveLibraries, RunsGoOn, RunsGoOnOver};
 
 /// Whatever happened to a session, the spans of its ownership are adjoining: they cut its inbound
 /// log into intervals, the engine's and a library's in turns.
@@ -30,6 +30,13 @@ pub fn lines_go_on()
 pub fn lines_tell_the_owner()
     ensures owner { LinesTellOwner }
     ensures lease { LinesTellLease }
+{}
+
+/// A lease is a library's, and a request is granted only where no library has the session and a lease is
+/// left to give.
+pub fn grants_find_nobody()
+    ensures libraries { LeasesHaveLibraries }
+    ensures grants { GrantsFindNobody }
 {}
 
 /// The word of a journal is shown by it. A word that the engine reads, which its lines then stand
