@@ -6,6 +6,7 @@ pub mod Carried
 pub mod Spells
 pub mod Runs
 pub mod LeaseEntries
+pub mod LeasesStay
 pub mod RunEvents
 pub mod TextRuns
 pub mod TextEvents

@@ -2,6 +2,7 @@ pub mod Book
 pub mod Acts
 pub mod Words
 pub mod Kept
+pub mod Leases
 pub mod Items
 pub mod Told
 pub mod Spells

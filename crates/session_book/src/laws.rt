@@ -7,9 +7,10 @@ ghost use Rattle.resend_plan.specs.Wire.{NamesEntry};
 ghost use Rattle.resend_plan.specs.declared.item.Names2.{Names2};
 ghost use Rattle.resend_plan.specs.declared.item.WireItem.{WireItem};
 ghost use Rattle.lease_core.specs.State.{state_of};
-ghost use Rattle.session_book.specs.Acts.{IsBegun, after_binding, after_dial, after_end, after_lapse, after_message, after_request, after_ticking};
+ghost use Rattle.session_book.specs.Acts.{IsBegun, after_acts, after_binding, after_dial, after_end, after_lapse, after_message, after_request, after_ticking};
 ghost use Rattle.session_book.specs.Book.{Book, Desk, with_event, with_machine, with_outbox};
 ghost use Rattle.session_book.specs.Items.{QueuesWhatIsTold};
+ghost use Rattle.session_book.specs.Leases.{HasSameLeases};
 ghost use Rattle.lease_core.specs.declared.word.Word.{Word};
 ghost use Rattle.session_book.specs.Kept.{IsBook};
 ghost use Rattle.session_book.specs.Moments.{IsTimedRun};
@@ -18,6 +19,7 @@ ghost use Rattle.session_book.specs.Runs.{Handled, IsRunBegun, IsRunOver, handle
 ghost use Rattle.lease_core.specs.declared.entry.Entry.{Entry};
 ghost use Rattle.lease_core.specs.declared.entry.Entry.TheVariants.{Admin, Arrive, Bind};
 ghost use Rattle.session_core.specs.State.{IsState, State};
+ghost use Rattle.session_core.specs.declared.acts.Act.{Act};
 ghost use Rattle.session_book.specs.Sends.{AreSendsOf, new_sends};
 ghost use Rattle.message_log.specs.declared.entry.OutEntry.{OutEntry};
 ghost use Rattle.session_book.specs.Texts.{IsTextOf, outbound_text};
@@ -29,7 +31,7 @@ ghost use Rattle.session_core.specs.Tick.{after_tick, tick};
 ghost use Rattle.session_book.specs.Words.{after_timeout, after_word, shown_sends};
 
 use connection_core::{items_have_text, items_stay_queued};
-use lease_core::laws::entries_decide_one_by_one;
+use lease_core::laws::{entries_decide_one_by_one, lines_go_on};
 use message_log::{entries_stay, logs_go_on};
 use resend_plan::{items_stay, plans_answer};
 use session_core::laws::{
@@ -314,6 +316,30 @@ pub fn beats_come_in_time()
     acts_of_ticks();
     items_stay();
     plans_answer();
+}
+
+/// What the session machine asks for, and the Bind and the end of a connection, leave the leases as they
+/// are: their lines, and for whom the session is reserved. How often it can be granted, no event
+/// changes.
+pub fn leases_stay()
+    ensures message { (at : ℕ) (body : List ℕ) (desk : Desk) → HasSameLeases desk.book (after_message at body desk).book }
+    ensures bind { (c at : ℕ) (body : List ℕ) (desk : Desk) → HasSameLeases desk.book (after_binding at c body desk).book }
+    ensures dial { (c at : ℕ) (desk : Desk) → HasSameLeases desk.book (after_dial at c desk).book }
+    ensures tick { (at : ℕ) (desk : Desk) → HasSameLeases desk.book (after_ticking at desk).book }
+    ensures leave { (c : ℕ) (book : Book) → HasSameLeases book (after_end c book) }
+    ensures acts { (at : ℕ) (acts : List Act) (desk : Desk) → HasSameLeases desk.book (after_acts at acts desk).book }
+    // Where memory was wanting, also behind the Bind of a connection.
+    ensures begun { (at : ℕ) (acts : List Act) (start new : Desk) → IsBegun at acts start new → HasSameLeases start.book new.book }
+    ensures opened { (c at : ℕ) (acts : List Act) (machine : State) (desk new : Desk)
+        → IsBegun at acts (with_outbox (with_machine machine (with_event (Binds c) desk.book)) desk.outgoing) new → HasSameLeases desk.book new.book }
+    // What leases do doesn't change how often it can be granted.
+    ensures word { (at until : ℕ) (w : Word) (bodies : List (List ℕ)) (desk : Desk) → (after_word at until w bodies desk).book.leases ≡ desk.book.leases }
+    ensures timeout { (at until : ℕ) (old : Word) (bodies : List (List ℕ)) (desk : Desk) → (after_timeout at until old bodies desk).book.leases ≡ desk.book.leases }
+    ensures request { (library nr from : ℕ) (book : Book) → (after_request library nr from book).leases ≡ book.leases }
+    ensures lapse { (book : Book) → (after_lapse book).leases ≡ book.leases }
+{
+    entries_decide_one_by_one();
+    lines_go_on();
 }
 
 /// Records that no session leaves: logs of which no entry tells, and entries that no connection asked
