@@ -7,6 +7,8 @@ pub mod Spells
 pub mod Runs
 pub mod LeaseEntries
 pub mod LeasesStay
+pub mod Connections
+pub mod GoingOn
 pub mod RunEvents
 pub mod TextRuns
 pub mod TextEvents

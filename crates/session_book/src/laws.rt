@@ -20,6 +20,7 @@ ghost use Rattle.lease_core.specs.declared.entry.Entry.{Entry};
 ghost use Rattle.lease_core.specs.declared.entry.Entry.TheVariants.{Admin, Arrive, Bind};
 ghost use Rattle.session_core.specs.State.{IsState, State};
 ghost use Rattle.session_core.specs.declared.acts.Act.{Act};
+ghost use Rattle.session_book.specs.Rereading.{WentOn};
 ghost use Rattle.session_book.specs.Sends.{AreSendsOf, new_sends};
 ghost use Rattle.message_log.specs.declared.entry.OutEntry.{OutEntry};
 ghost use Rattle.session_book.specs.Texts.{IsTextOf, outbound_text};
@@ -340,6 +341,73 @@ pub fn leases_stay()
 {
     entries_decide_one_by_one();
     lines_go_on();
+}
+
+/// A bind and a dial give the session its connection, a leave takes it, and nothing else changes it.
+pub fn connections_follow()
+    ensures bind { (c at : ℕ) (body : List ℕ) (desk : Desk) → (state_of (after_binding at c body desk).book.entries).bound ≡ Some c }
+    ensures dial { (c at : ℕ) (desk : Desk) → (state_of (after_dial at c desk).book.entries).bound ≡ Some c }
+    ensures leave { (c : ℕ) (book : Book) → (state_of (after_end c book).entries).bound ≡ None }
+    ensures message { (at : ℕ) (body : List ℕ) (desk : Desk) → (state_of (after_message at body desk).book.entries).bound ≡ (state_of desk.book.entries).bound }
+    ensures tick { (at : ℕ) (desk : Desk) → (state_of (after_ticking at desk).book.entries).bound ≡ (state_of desk.book.entries).bound }
+    ensures word { (at until : ℕ) (w : Word) (bodies : List (List ℕ)) (desk : Desk) → (state_of (after_word at until w bodies desk).book.entries).bound ≡ (state_of desk.book.entries).bound }
+    ensures timeout { (at until : ℕ) (old : Word) (bodies : List (List ℕ)) (desk : Desk)
+        → (state_of (after_timeout at until old bodies desk).book.entries).bound ≡ (state_of desk.book.entries).bound }
+    ensures request { (library nr from : ℕ) (book : Book) → (state_of (after_request library nr from book).entries).bound ≡ (state_of book.entries).bound }
+    ensures lapse { (book : Book) → (state_of (after_lapse book).entries).bound ≡ (state_of book.entries).bound }
+    // Where memory was wanting, also behind the Bind of a connection.
+    ensures begun { (at : ℕ) (acts : List Act) (start new : Desk) → IsBegun at acts start new → (state_of new.book.entries).bound ≡ (state_of start.book.entries).bound }
+    ensures opened { (c at : ℕ) (acts : List Act) (machine : State) (desk new : Desk)
+        → IsBegun at acts (with_outbox (with_machine machine (with_event (Binds c) desk.book)) desk.outgoing) new → (state_of new.book.entries).bound ≡ Some c }
+{
+    entries_decide_one_by_one();
+}
+
+/// A session goes on: behind each event its journal and its logs begin with what they had before.
+pub fn sessions_go_on()
+    ensures message { (at : ℕ) (body : List ℕ) (desk : Desk) → WentOn desk.book (after_message at body desk).book }
+    ensures bind { (c at : ℕ) (body : List ℕ) (desk : Desk) → WentOn desk.book (after_binding at c body desk).book }
+    ensures dial { (c at : ℕ) (desk : Desk) → WentOn desk.book (after_dial at c desk).book }
+    ensures tick { (at : ℕ) (desk : Desk) → WentOn desk.book (after_ticking at desk).book }
+    ensures leave { (c : ℕ) (book : Book) → WentOn book (after_end c book) }
+    ensures word { (at until : ℕ) (w : Word) (bodies : List (List ℕ)) (desk : Desk) → WentOn desk.book (after_word at until w bodies desk).book }
+    ensures timeout { (at until : ℕ) (old : Word) (bodies : List (List ℕ)) (desk : Desk) → WentOn desk.book (after_timeout at until old bodies desk).book }
+    ensures request { (library nr from : ℕ) (book : Book) → WentOn book (after_request library nr from book) }
+    ensures lapse { (book : Book) → WentOn book (after_lapse book) }
+    // Where memory was wanting, also behind the Bind of a connection.
+    ensures begun { (at : ℕ) (acts : List Act) (start new : Desk) → IsBegun at acts start new → WentOn start.book new.book }
+    ensures opened { (c at : ℕ) (acts : List Act) (machine : State) (desk new : Desk)
+        → IsBegun at acts (with_outbox (with_machine machine (with_event (Binds c) desk.book)) desk.outgoing) new → WentOn desk.book new.book }
+    // Nothing happened, and one event behind another.
+    ensures itself { (book : Book) → WentOn book book }
+    ensures further { (first second third : Book) → WentOn first second → WentOn second third → WentOn first third }
+    // What was accepted stays where it is.
+    ensures accepted { (before book : Book) → WentOn before book → take (length before.inbound) book.inbound ≡ before.inbound }
+{
+    entries_decide_one_by_one();
+    entries_stay();
+    logs_go_on();
+    items_stay();
+    plans_answer();
+}
+
+/// Only what is received comes to the inbound log.
+pub fn inbound_logs_stay()
+    ensures dial { (c at : ℕ) (desk : Desk) → (after_dial at c desk).book.inbound ≡ desk.book.inbound }
+    ensures tick { (at : ℕ) (desk : Desk) → (after_ticking at desk).book.inbound ≡ desk.book.inbound }
+    ensures leave { (c : ℕ) (book : Book) → (after_end c book).inbound ≡ book.inbound }
+    ensures word { (at until : ℕ) (w : Word) (bodies : List (List ℕ)) (desk : Desk) → (after_word at until w bodies desk).book.inbound ≡ desk.book.inbound }
+    ensures timeout { (at until : ℕ) (old : Word) (bodies : List (List ℕ)) (desk : Desk) → (after_timeout at until old bodies desk).book.inbound ≡ desk.book.inbound }
+    ensures request { (library nr from : ℕ) (book : Book) → (after_request library nr from book).inbound ≡ book.inbound }
+    ensures lapse { (book : Book) → (after_lapse book).inbound ≡ book.inbound }
+    // Where memory was wanting.
+    ensures begun_dial { (c at : ℕ) (desk new : Desk)
+        → IsBegun at (ask desk.book.machine).acts (with_outbox (with_machine (after_ask desk.book.machine at) (with_event (Binds c) desk.book)) desk.outgoing) new
+        → new.book.inbound ≡ desk.book.inbound }
+    ensures begun_tick { (at : ℕ) (desk new : Desk) → IsBegun at (tick desk.book.machine at).acts (with_outbox (with_machine (after_tick desk.book.machine at) desk.book) desk.outgoing) new
+        → new.book.inbound ≡ desk.book.inbound }
+{
+    acts_of_ticks();
 }
 
 /// Records that no session leaves: logs of which no entry tells, and entries that no connection asked
