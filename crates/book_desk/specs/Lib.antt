@@ -1,2 +1,1 @@
 pub mod NextWord
-pub mod Waiting

@@ -13,14 +13,13 @@ ghost use Rattle.session_core.specs.declared.names.Names.{Names};
 ghost use Rattle.session_core.specs.declared.phases.Phase.TheVariants as Phase;
 ghost use Rattle.session_book.specs.Acts.{IsBoundIn};
 ghost use Rattle.session_book.specs.Book.{IsSameSession};
-ghost use Rattle.book_desk.specs.Waiting.{CanBeWritten};
+ghost use Rattle.session_book.specs.Waiting.{CanBeWritten};
 
-use connection_core::{Connection, Outbox, items_have_text, items_stay_queued};
+use connection_core::{Connection, Outbox};
 use gate_io::{Bytes, LAST_MOMENT, NoMemory};
 use lease_core::{Reply, Shown, Word};
-use message_log::{entries_stay, logs_go_on};
-use resend_plan::plans_answer;
 use session_book::SessionBook;
+use session_book::laws::what_waits_can_be_written;
 use session_core::Cause;
 use std::alloc::Global;
 use std::collections::VecDeque;
@@ -44,10 +43,7 @@ pub fn bind(
     ensures bound { OnOk result (IsBoundIn book.new.book) }
     ensures on { IfOk result (λ end. (names : List Names) → binds names body.items ≡ true → end ≡ None → book.new.book.machine.phase ≢ Phase.Off) }
 {
-    items_stay_queued();
-    entries_stay();
-    logs_go_on();
-    plans_answer();
+    what_waits_can_be_written();
     let _expected = book.expected();
     let end = book.bind(alloc, c, body, at, out)?;
     Ok(end)
@@ -71,10 +67,7 @@ pub fn receive(
     ensures bound { (state_of book.new.book.entries).bound ≡ (state_of book.old.book.entries).bound }
     ensures on { book.new.book.machine.phase ≢ Phase.Off }
 {
-    items_stay_queued();
-    entries_stay();
-    logs_go_on();
-    plans_answer();
+    what_waits_can_be_written();
     let _expected = book.expected();
     let end = book.receive(alloc, body, at, out)?;
     Ok(end)
@@ -95,10 +88,7 @@ pub fn tick(
     ensures bound { (state_of book.new.book.entries).bound ≡ (state_of book.old.book.entries).bound }
     ensures phase { book.new.book.machine.phase ≡ book.old.book.machine.phase }
 {
-    items_stay_queued();
-    entries_stay();
-    logs_go_on();
-    plans_answer();
+    what_waits_can_be_written();
     let _expected = book.expected();
     let end = book.tick(alloc, at, out)?;
     Ok(end)
@@ -111,8 +101,6 @@ pub fn leave(book: &mut SessionBook, c: u32) -> Result<(), NoMemory>
     ensures session { IsSameSession book.old.book book.new.book }
     ensures bound { OnOk result ((state_of book.new.book.entries).bound ≡ None) }
 {
-    items_stay_queued();
-    logs_go_on();
     book.leave(c)
 }
 
@@ -124,8 +112,6 @@ pub fn request(book: &mut SessionBook, library: u8, nr: u32, from: u64) -> Resul
     ensures bound { (state_of book.new.book.entries).bound ≡ (state_of book.old.book.entries).bound }
     ensures phase { book.new.book.machine.phase ≡ book.old.book.machine.phase }
 {
-    items_stay_queued();
-    logs_go_on();
     book.request(library, nr, from)
 }
 
@@ -137,8 +123,6 @@ pub fn lapse(book: &mut SessionBook) -> Result<(), NoMemory>
     ensures bound { (state_of book.new.book.entries).bound ≡ (state_of book.old.book.entries).bound }
     ensures phase { book.new.book.machine.phase ≡ book.old.book.machine.phase }
 {
-    items_stay_queued();
-    logs_go_on();
     book.lapse()
 }
 
@@ -183,10 +167,7 @@ pub fn show(
     ensures bound { (state_of book.new.book.entries).bound ≡ (state_of book.old.book.entries).bound }
     ensures phase { book.new.book.machine.phase ≡ book.old.book.machine.phase }
 {
-    items_stay_queued();
-    entries_stay();
-    logs_go_on();
-    plans_answer();
+    what_waits_can_be_written();
     let _expected = book.expected();
     book.show(alloc, w, bodies, at, until, out)
 }
@@ -214,10 +195,7 @@ pub fn time_out(
     ensures bound { (state_of book.new.book.entries).bound ≡ (state_of book.old.book.entries).bound }
     ensures phase { book.new.book.machine.phase ≡ book.old.book.machine.phase }
 {
-    items_stay_queued();
-    entries_stay();
-    logs_go_on();
-    plans_answer();
+    what_waits_can_be_written();
     let _expected = book.expected();
     book.time_out(alloc, old, bodies, at, until, out)
 }
@@ -233,7 +211,7 @@ pub fn prepare(
     ensures written { CanBeWritten book.now.book connection.new.out.outgoing }
     ensures out { connection.new ≡ record connection.old { out = connection.new.out } }
 {
-    items_have_text();
+    what_waits_can_be_written();
     connection.prepare(alloc, book.outbound(), book.written_names(), limit)
 }
 

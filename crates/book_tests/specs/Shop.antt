@@ -5,7 +5,7 @@ use Rattle.gate_io.specs.declared.clocks.TheConstants.{LAST_MOMENT}
 use Rattle.lease_core.specs.State.{state_of}
 use Rattle.session_core.specs.declared.phases.Phase.TheVariants.{Off}
 use Rattle.session_book.specs.Book.{Book}
-use Rattle.book_desk.specs.Waiting.{CanBeWritten}
+use Rattle.session_book.specs.Waiting.{CanBeWritten}
 
 -- where a connection stands, the session is bound to it and isn't off
 pub record Stands (book : Book) : Type 0 where

@@ -5,7 +5,7 @@ ghost use Rattle.std.specs.List.{All};
 ghost use Rattle.lease_core.specs.State.{state_of};
 ghost use Rattle.resend_plan.specs.Fit.{IsFit};
 ghost use Rattle.session_core.specs.Runs.{binds};
-ghost use Rattle.book_desk.specs.Waiting.{CanBeWritten};
+ghost use Rattle.session_book.specs.Waiting.{CanBeWritten};
 
 use crate::texts::{T, soh};
 use book_desk::can_show;

@@ -9,6 +9,7 @@ pub mod LeaseEntries
 pub mod LeasesStay
 pub mod Connections
 pub mod GoingOn
+pub mod Waiting
 pub mod RunEvents
 pub mod TextRuns
 pub mod TextEvents

@@ -178,7 +178,7 @@ pushed_last entries [] e = refl
 pushed_last entries (next ∷ later) e = pushed_last next later e
 
 -- the present series has the entry behind those that it had
-present : (log : List (List OutEntry)) (e : OutEntry) → 1 ≤ length log → series_at (with_entry log e) (length log) ≡ series_at log (length log) ++ e ∷ []
+pub present : (log : List (List OutEntry)) (e : OutEntry) → 1 ≤ length log → series_at (with_entry log e) (length log) ≡ series_at log (length log) ++ e ∷ []
 present [] e h = absurd (omega arith)
 present (entries ∷ later) e h =
     let log = entries ∷ later in

@@ -186,14 +186,14 @@ pub record Grounds : Type 0 where
   pub names : NamesStay
   pub plans : PlansNameEntries
 
-none_named : (log : List (List OutEntry)) → All (NamesEntry log) []
+pub none_named : (log : List (List OutEntry)) → All (NamesEntry log) []
 none_named log = All-nil (NamesEntry log)
 
-one_named : (log : List (List OutEntry)) (item : WireItem) → NamesEntry log item → All (NamesEntry log) (item ∷ [])
+pub one_named : (log : List (List OutEntry)) (item : WireItem) → NamesEntry log item → All (NamesEntry log) (item ∷ [])
 one_named log item is = All-cons (NamesEntry log) item [] is (none_named log)
 
 -- the entry that was pushed is named by the number behind those before it
-pushed_named : (log : List (List OutEntry)) (entry : OutEntry) → 1 ≤ length log → NamesEntry (with_entry log entry) (New (length log) (length (series_at log (length log)) + 1))
+pub pushed_named : (log : List (List OutEntry)) (entry : OutEntry) → 1 ≤ length log → NamesEntry (with_entry log entry) (New (length log) (length (series_at log (length log)) + 1))
 pushed_named log entry h = ap (λ (o : Option OutEntry). is_some o) (named log entry h)
 
 module _ (g : Grounds) where

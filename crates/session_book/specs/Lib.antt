@@ -8,6 +8,7 @@ pub mod Told
 pub mod Spells
 pub mod Runs
 pub mod Texts
+pub mod Waiting
 pub mod Sends
 pub mod Moments
 pub mod Reviving

@@ -1,6 +1,6 @@
 //! Laws of the definitions. Each is the contract of a function that does nothing.
 
-ghost use Rattle.std.specs.Prelude.{◌≡◌, ◌≢◌, ◌≤◌, ℕ, List, [], ◌∷◌, ◌++◌, None, Some, length, take, All};
+ghost use Rattle.std.specs.Prelude.{◌≡◌, ◌≢◌, ◌≤◌, ◌⊎◌, ℕ, List, [], ◌∷◌, ◌++◌, None, Some, length, take, All};
 ghost use Rattle.connection_core.specs.Items.{AreItemsOf};
 ghost use Rattle.connection_core.specs.Outgoing.{Outgoing, waiting_count, written_text};
 ghost use Rattle.resend_plan.specs.Wire.{NamesEntry};
@@ -12,7 +12,7 @@ ghost use Rattle.session_book.specs.Book.{Book, Desk, with_event, with_machine, 
 ghost use Rattle.session_book.specs.Items.{QueuesWhatIsTold};
 ghost use Rattle.session_book.specs.Leases.{HasSameLeases};
 ghost use Rattle.lease_core.specs.declared.word.Word.{Word};
-ghost use Rattle.session_book.specs.Kept.{IsBook};
+ghost use Rattle.session_book.specs.Kept.{AreNamesOf, IsBook};
 ghost use Rattle.session_book.specs.Moments.{IsTimedRun};
 ghost use Rattle.session_core.specs.declared.phases.Phase.TheVariants as Phase;
 ghost use Rattle.session_book.specs.Runs.{Handled, IsRunBegun, IsRunOver, handled_of, with_body};
@@ -29,6 +29,7 @@ ghost use Rattle.lease_core.specs.declared.event.Event.TheVariants.{Binds};
 ghost use Rattle.session_core.specs.Ask.{after_ask, ask};
 ghost use Rattle.session_core.specs.Receive.{after_receive, receive};
 ghost use Rattle.session_core.specs.Tick.{after_tick, tick};
+ghost use Rattle.session_book.specs.Waiting.{CanBeWritten, StaysWritable};
 ghost use Rattle.session_book.specs.Words.{after_timeout, after_word, shown_sends};
 
 use connection_core::{items_have_text, items_stay_queued};
@@ -315,6 +316,50 @@ pub fn beats_come_in_time()
     texts_of_messages();
     acts_of_messages();
     acts_of_ticks();
+    items_stay();
+    plans_answer();
+}
+
+/// What waits can be written, whatever comes: on the session's connection, where further items come to
+/// wait behind those that were queued, and on any other one.
+pub fn what_waits_can_be_written()
+    ensures message { (at : ℕ) (body : List ℕ) (desk : Desk) → IsBook desk.book → StaysWritable desk (after_message at body desk) }
+    ensures bind { (c at : ℕ) (body : List ℕ) (desk : Desk) → IsBook desk.book → StaysWritable desk (after_binding at c body desk) }
+    ensures dial { (c at : ℕ) (desk : Desk) → IsBook desk.book → StaysWritable desk (after_dial at c desk) }
+    ensures tick { (at : ℕ) (desk : Desk) → IsBook desk.book → StaysWritable desk (after_ticking at desk) }
+    ensures word { (at until : ℕ) (w : Word) (bodies : List (List ℕ)) (desk : Desk) → IsBook desk.book → StaysWritable desk (after_word at until w bodies desk) }
+    ensures timeout { (at until : ℕ) (old : Word) (bodies : List (List ℕ)) (desk : Desk) → IsBook desk.book → StaysWritable desk (after_timeout at until old bodies desk) }
+    ensures leave { (c : ℕ) (desk : Desk) → IsBook desk.book → StaysWritable desk (with_outbox (after_end c desk.book) desk.outgoing) }
+    ensures request { (library nr from : ℕ) (desk : Desk) → IsBook desk.book → StaysWritable desk (with_outbox (after_request library nr from desk.book) desk.outgoing) }
+    ensures lapse { (desk : Desk) → IsBook desk.book → StaysWritable desk (with_outbox (after_lapse desk.book) desk.outgoing) }
+    // Where memory was wanting: nothing happened, or only some of the acts were carried out.
+    ensures begun_message { (at : ℕ) (body : List ℕ) (desk new : Desk) → IsBook desk.book
+        → (new ≡ desk) ⊎ IsBegun at (receive desk.book.machine body at).acts (with_outbox (with_machine (after_receive desk.book.machine body at) desk.book) desk.outgoing) new
+        → StaysWritable desk new }
+    ensures begun_bind { (c at : ℕ) (body : List ℕ) (desk new : Desk) → IsBook desk.book
+        → (new ≡ desk) ⊎ IsBegun at (receive desk.book.machine body at).acts (with_outbox (with_machine (after_receive desk.book.machine body at) (with_event (Binds c) desk.book)) desk.outgoing) new
+        → StaysWritable desk new }
+    ensures begun_dial { (c at : ℕ) (desk new : Desk) → IsBook desk.book
+        → (new ≡ desk) ⊎ IsBegun at (ask desk.book.machine).acts (with_outbox (with_machine (after_ask desk.book.machine at) (with_event (Binds c) desk.book)) desk.outgoing) new
+        → StaysWritable desk new }
+    ensures begun_tick { (at : ℕ) (desk new : Desk) → IsBook desk.book
+        → (new ≡ desk) ⊎ IsBegun at (tick desk.book.machine at).acts (with_outbox (with_machine (after_tick desk.book.machine at) desk.book) desk.outgoing) new
+        → StaysWritable desk new }
+    // So what could be written can be written.
+    ensures here { (old new : Desk) → StaysWritable old new → CanBeWritten old.book old.outgoing → CanBeWritten new.book new.outgoing }
+    ensures there { (old new : Desk) (out : Outgoing) → StaysWritable old new → CanBeWritten old.book out → CanBeWritten new.book out }
+    // Also where texts are made and written, with the names and the log that the session lends.
+    ensures kept { (book : Book) (names : Names2) (log : List (List OutEntry)) (out later : Outgoing) → AreNamesOf book.machine.names names → log ≡ book.outbound
+        → ((items : List WireItem) → AreItemsOf names log items out → AreItemsOf names log items later) → CanBeWritten book out → CanBeWritten book later }
+    // What has no text names entries of the log, as `prepare` wants it.
+    ensures unmade { (book : Book) (out : Outgoing) → CanBeWritten book out → All (NamesEntry book.outbound) out.unmade }
+{
+    entries_decide_one_by_one();
+    entries_stay();
+    logs_go_on();
+    sameness_laws();
+    items_stay_queued();
+    items_have_text();
     items_stay();
     plans_answer();
 }

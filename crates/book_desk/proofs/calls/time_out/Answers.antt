@@ -1,30 +1,12 @@
-use Rattle.book_desk.proofs.Waits.{Laws, timeout_written}
+use Rattle.book_desk.proofs.Waits.{on_desk}
 use Rattle.book_desk.proofs.calls.time_out.Goals as goal
 
 pub returns-clause-written : goal.returns-clause-written
 returns-clause-written c =
-    let l : Laws = record {
-      queue = c.items_stay_queued.ensures.queue;
-      grow = c.items_stay_queued.ensures.grow;
-      itself = c.logs_go_on.ensures.itself;
-      entry = c.logs_go_on.ensures.entry;
-      series = c.logs_go_on.ensures.series;
-      further = c.logs_go_on.ensures.further;
-      named = c.entries_stay.ensures.named;
-      plans = c.plans_answer.ensures.named;
-    } in
-    (timeout_written l c.args.at c.args.until c.args.old c.args.bodies.now.items _ _ _ c.time_out.ensures.news c.time_out.ensures.session.names c.expected-expected.ensures.book.begun c.requires.written).0
+    let law = c.what_waits_can_be_written.ensures in
+    law.here _ _ (on_desk _ _ _ c.time_out.ensures.news (law.timeout _ _ _ _ _ c.expected-expected.ensures.book)) c.requires.written
 
 pub returns-clause-stays : goal.returns-clause-stays
 returns-clause-stays c =
-    let l : Laws = record {
-      queue = c.items_stay_queued.ensures.queue;
-      grow = c.items_stay_queued.ensures.grow;
-      itself = c.logs_go_on.ensures.itself;
-      entry = c.logs_go_on.ensures.entry;
-      series = c.logs_go_on.ensures.series;
-      further = c.logs_go_on.ensures.further;
-      named = c.entries_stay.ensures.named;
-      plans = c.plans_answer.ensures.named;
-    } in
-    (timeout_written l c.args.at c.args.until c.args.old c.args.bodies.now.items _ _ _ c.time_out.ensures.news c.time_out.ensures.session.names c.expected-expected.ensures.book.begun c.requires.written).1
+    let law = c.what_waits_can_be_written.ensures in
+    λ out. law.there _ _ out (on_desk _ _ _ c.time_out.ensures.news (law.timeout _ _ _ _ _ c.expected-expected.ensures.book))

@@ -2,7 +2,7 @@ use Rattle.std.proofs.lemmas.Bool.{false≢true}
 use Rattle.std.proofs.Common.{[], ap, sym, subst, ◌∙◌}
 use Rattle.connection_core.specs.Connection.{ConnectionState}
 use Rattle.connection_core.specs.Items.{AreItemsOf}
-use Rattle.book_desk.specs.Waiting.{CanBeWritten, written_names}
+use Rattle.session_book.specs.Waiting.{CanBeWritten, written_names}
 use Rattle.book_tests.proofs.desk.Desk.connect.Goals as goal
 
 pub invariant_of-self-2 : goal.invariant_of-self-2
