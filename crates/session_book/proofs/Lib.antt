@@ -23,3 +23,4 @@ pub mod Wrong
 pub mod ReadingBack
 pub mod Handing
 pub mod RoundTrip
+pub mod Marks

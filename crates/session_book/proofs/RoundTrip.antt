@@ -28,12 +28,12 @@ use Rattle.session_book.proofs.Handing.{over_least, series_folded, series_steppe
 use Rattle.session_book.proofs.News.{series_is}
 
 -- a log has so many entries in each of these series, or more
-abbrev FitsIn : List ℕ → List (List OutEntry) → Type 0
+abbrev pub FitsIn : List ℕ → List (List OutEntry) → Type 0
 FitsIn [] log = Unit {0}
 FitsIn (n ∷ counts) [] = ⊥
 FitsIn (n ∷ counts) (entries ∷ log) = (n ≤ length entries) × FitsIn counts log
 
-fits_whole : (log : List (List OutEntry)) → FitsIn (lengths log) log
+pub fits_whole : (log : List (List OutEntry)) → FitsIn (lengths log) log
 fits_whole [] = tt
 fits_whole (entries ∷ log) = (omega arith, fits_whole log)
 
@@ -61,7 +61,7 @@ first_turned (n ∷ counts) [] fits = absurd fits
 first_turned (n ∷ counts) (entries ∷ log) fits = ap (λ rest. take n entries ∷ rest) (first_turned counts log fits.1)
 
 -- the series of the last count
-abbrev last_series : List ℕ → List (List OutEntry) → List OutEntry
+abbrev pub last_series : List ℕ → List (List OutEntry) → List OutEntry
 last_series [] log = []
 last_series (n ∷ counts) [] = []
 last_series (n ∷ []) (entries ∷ log) = entries
@@ -73,7 +73,7 @@ last_got n [] (entries ∷ log) = refl
 last_got n (m ∷ counts) [] = refl
 last_got n (m ∷ counts) (entries ∷ log) = last_got m counts log
 
-last_is : (counts : List ℕ) (log : List (List OutEntry)) → 1 ≤ length counts → last_series counts log ≡ series_at log (length counts)
+pub last_is : (counts : List ℕ) (log : List (List OutEntry)) → 1 ≤ length counts → last_series counts log ≡ series_at log (length counts)
 last_is [] log some = absurd (omega arith)
 last_is (n ∷ counts) log some =
     let one_less : length (n ∷ counts) - 1 ≡ length counts = omega arith in
@@ -132,7 +132,7 @@ fits_before (Timeout lease library count) counts log fits = fits
 fits_before (Hold lease until) counts log fits = fits
 fits_before (Lapse lease) counts log fits = fits
 
-fits_all : (es : List Entry) (s : Totals) (log : List (List OutEntry)) → FitsIn (fold state_after s es).series log → FitsIn s.series log
+pub fits_all : (es : List Entry) (s : Totals) (log : List (List OutEntry)) → FitsIn (fold state_after s es).series log → FitsIn s.series log
 fits_all [] s log fits = fits
 fits_all (e ∷ es) s log fits = fits_before e s.series log (fits_all es (state_after s e) log fits)
 
@@ -186,7 +186,7 @@ step_placed limit s TimesOut = refl
 step_placed limit s (Holds until) = refl
 step_placed limit s Lapses = refl
 
-placed : (limit : ℕ) (s : Totals) (e : Entry) → IsNext limit s e → place_of e ≡ place_in s e
+pub placed : (limit : ℕ) (s : Totals) (e : Entry) → IsNext limit s e → place_of e ≡ place_in s e
 placed limit s e next =
     let is = next.is_step.entry in
     ap place_of is ∙ step_placed limit s next.is_step.event ∙ sym (ap (λ (x : Entry). place_in s x) is)
@@ -265,7 +265,7 @@ marked_rest : (log : List (List OutEntry)) (s : Totals) (es more : List Entry) �
 marked_rest log s [] more marked = marked
 marked_rest log s (e ∷ es) more marked = marked_rest log (state_after s e) es more marked.1
 
-state_folded : (es : List Entry) → state_of es ≡ fold state_after opening es
+pub state_folded : (es : List Entry) → state_of es ≡ fold state_after opening es
 unfolding state_of
 state_folded es = refl
 

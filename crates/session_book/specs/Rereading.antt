@@ -44,6 +44,10 @@ abbrev pub AreMarked : List (List OutEntry) → Totals → List Entry → Type 0
 AreMarked log s [] = Unit {0}
 AreMarked log s (e ∷ es) = IsMarked log s e × AreMarked log (state_after s e) es
 
+-- and so it is of all that was read back, or that there is to be read back
+abbrev pub IsAllMarked : ReadBack → Type 0
+IsAllMarked read = AreMarked read.outbound opening read.entries
+
 -- The records of the entries that weren't handed out, read behind those that were, give the session's journal and logs.
 abbrev pub RecordsAreReadBack : Type 0
 RecordsAreReadBack =

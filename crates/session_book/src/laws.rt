@@ -1,11 +1,12 @@
 //! Laws of the definitions. Each is the contract of a function that does nothing.
 
-ghost use Rattle.std.specs.Prelude.{◌≡◌, ◌≢◌, ◌≤◌, ◌⊎◌, ℕ, List, [], ◌∷◌, ◌++◌, None, Some, length, take, All};
+ghost use Rattle.std.specs.Prelude.{◌≡◌, ◌≢◌, ◌≤◌, ◌⊎◌, ℕ, List, [], ◌∷◌, ◌++◌, Option, None, Some, length, take, All};
 ghost use Rattle.connection_core.specs.Items.{AreItemsOf};
 ghost use Rattle.connection_core.specs.Outgoing.{Outgoing, waiting_count, written_text};
 ghost use Rattle.resend_plan.specs.Wire.{NamesEntry};
 ghost use Rattle.resend_plan.specs.declared.item.Names2.{Names2};
 ghost use Rattle.resend_plan.specs.declared.item.WireItem.{WireItem};
+ghost use Rattle.lease_core.specs.Runs.{IsNext, IsRun};
 ghost use Rattle.lease_core.specs.State.{state_of};
 ghost use Rattle.session_book.specs.Acts.{IsBegun, after_acts, after_binding, after_dial, after_end, after_lapse, after_message, after_request, after_ticking};
 ghost use Rattle.session_book.specs.Book.{Book, Desk, with_event, with_machine, with_outbox};
@@ -20,7 +21,8 @@ ghost use Rattle.lease_core.specs.declared.entry.Entry.{Entry};
 ghost use Rattle.lease_core.specs.declared.entry.Entry.TheVariants.{Admin, Arrive, Bind};
 ghost use Rattle.session_core.specs.State.{IsState, State};
 ghost use Rattle.session_core.specs.declared.acts.Act.{Act};
-ghost use Rattle.session_book.specs.Rereading.{WentOn};
+ghost use Rattle.session_book.specs.Rereading.{IsAllMarked, WentOn, read_of};
+ghost use Rattle.session_book.specs.Reviving.{IsReadBack, ReadBack, after_read, after_resume, nothing_read};
 ghost use Rattle.session_book.specs.Sends.{AreSendsOf, new_sends};
 ghost use Rattle.message_log.specs.declared.entry.OutEntry.{OutEntry};
 ghost use Rattle.session_book.specs.Texts.{IsTextOf, outbound_text};
@@ -32,6 +34,7 @@ ghost use Rattle.session_core.specs.Tick.{after_tick, tick};
 ghost use Rattle.session_book.specs.Waiting.{CanBeWritten, StaysWritable};
 ghost use Rattle.session_book.specs.Words.{after_timeout, after_word, shown_sends};
 
+use crate::reviving::texts_tell_session_entries;
 use connection_core::{items_have_text, items_stay_queued};
 use lease_core::laws::{entries_decide_one_by_one, lines_go_on};
 use message_log::{entries_stay, logs_go_on};
@@ -453,6 +456,51 @@ pub fn inbound_logs_stay()
         → new.book.inbound ≡ desk.book.inbound }
 {
     acts_of_ticks();
+}
+
+/// The outbound log marks each session message as its type field tells, and no send: so it is of a new
+/// session, and behind each event, also of a session that goes on from what was read back.
+pub fn messages_are_marked()
+    // Nothing is to be read back of a new session.
+    ensures first { (leases : ℕ) → IsAllMarked (nothing_read leases) }
+    // The journal is lawful, as `SessionBook::entries` tells.
+    ensures message { (at : ℕ) (body : List ℕ) (desk : Desk) → IsBook desk.book → IsRun desk.book.leases desk.book.entries
+        → IsAllMarked (read_of desk.book) → IsAllMarked (read_of (after_message at body desk).book) }
+    ensures bind { (c at : ℕ) (body : List ℕ) (desk : Desk) → IsBook desk.book → IsRun desk.book.leases desk.book.entries
+        → IsAllMarked (read_of desk.book) → IsAllMarked (read_of (after_binding at c body desk).book) }
+    ensures dial { (c at : ℕ) (desk : Desk) → IsBook desk.book → IsRun desk.book.leases desk.book.entries
+        → IsAllMarked (read_of desk.book) → IsAllMarked (read_of (after_dial at c desk).book) }
+    ensures tick { (at : ℕ) (desk : Desk) → IsBook desk.book → IsRun desk.book.leases desk.book.entries
+        → IsAllMarked (read_of desk.book) → IsAllMarked (read_of (after_ticking at desk).book) }
+    ensures word { (at until : ℕ) (w : Word) (bodies : List (List ℕ)) (desk : Desk) → IsBook desk.book → IsRun desk.book.leases desk.book.entries
+        → length bodies ≡ shown_sends desk.book.entries w → IsAllMarked (read_of desk.book) → IsAllMarked (read_of (after_word at until w bodies desk).book) }
+    ensures timeout { (at until : ℕ) (old : Word) (bodies : List (List ℕ)) (desk : Desk) → IsBook desk.book → IsRun desk.book.leases desk.book.entries
+        → length bodies ≡ shown_sends desk.book.entries old → IsAllMarked (read_of desk.book) → IsAllMarked (read_of (after_timeout at until old bodies desk).book) }
+    ensures leave { (c : ℕ) (book : Book) → IsAllMarked (read_of book) → IsAllMarked (read_of (after_end c book)) }
+    ensures request { (library nr from : ℕ) (book : Book) → IsAllMarked (read_of book) → IsAllMarked (read_of (after_request library nr from book)) }
+    ensures lapse { (book : Book) → IsAllMarked (read_of book) → IsAllMarked (read_of (after_lapse book)) }
+    // Where memory was wanting, also behind the Bind of a connection.
+    ensures begun { (at : ℕ) (acts : List Act) (machine : State) (desk new : Desk) → IsBook desk.book → IsRun desk.book.leases desk.book.entries
+        → IsBegun at acts (with_outbox (with_machine machine desk.book) desk.outgoing) new → IsAllMarked (read_of desk.book) → IsAllMarked (read_of new.book) }
+    ensures opened { (c at : ℕ) (acts : List Act) (machine : State) (desk new : Desk) → IsBook desk.book → IsRun desk.book.leases desk.book.entries
+        → IsBegun at acts (with_outbox (with_machine machine (with_event (Binds c) desk.book)) desk.outgoing) new → IsAllMarked (read_of desk.book) → IsAllMarked (read_of new.book) }
+    // What is read back of a session, and the session that goes on behind it.
+    ensures read { (e : Entry) (at : ℕ) (body : List ℕ) (read : ReadBack) → IsReadBack read → IsRun read.leases read.entries → IsNext read.leases (state_of read.entries) e
+        → IsAllMarked read → IsAllMarked (after_read e at body read) }
+    ensures resume { (us them : List ℕ) (dials : Option ℕ) (expected until : ℕ) (read : ReadBack) → IsAllMarked read → IsAllMarked (read_of (after_resume us them dials expected until read)) }
+{
+    entries_decide_one_by_one();
+    entries_stay();
+    logs_go_on();
+    moments_dont_matter();
+    runs_in_parts();
+    sameness_laws();
+    texts_of_messages();
+    acts_of_messages();
+    acts_of_ticks();
+    texts_tell_session_entries();
+    items_stay();
+    plans_answer();
 }
 
 /// Records that no session leaves: logs of which no entry tells, and entries that no connection asked
