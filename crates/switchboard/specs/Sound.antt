@@ -2,12 +2,19 @@
 use Rattle.std.specs.Prelude.{◌≡◌, ℕ, ◌<◌, length, Option, None, Some}
 use Rattle.connection_core.specs.Connection.{ConnectionState}
 use Rattle.lease_core.specs.State.{state_of}
+use Rattle.session_core.specs.State.{IsState}
 use Rattle.session_book.specs.Book.{Book}
+use Rattle.session_book.specs.Kept.{IsBook}
 use Rattle.switchboard.specs.Board.{Board, book_at, connection_at, place_at}
 
 -- the connection to which a session is bound by its journal
 abbrev pub bound_of : Book → Option ℕ
 bound_of book = (state_of book.entries).bound
+
+-- what holds of every session
+pub record IsLawful (book : Book) : Type 0 where
+  pub is_book : IsBook book
+  pub is_state : IsState book.machine
 
 -- The session is bound to the connection at this place, which stands and names the session.
 pub record IsPlugged (board : Board) (s k : ℕ) : Type 0 where

@@ -9,12 +9,13 @@ ghost use Rattle.session_book.specs.Acts.{IsBegun, after_binding, after_dial, af
 ghost use Rattle.session_book.specs.Book.{with_event, with_machine, with_outbox};
 ghost use Rattle.session_core.specs.Ask.{ask, after_ask};
 ghost use Rattle.session_core.specs.Receive.{receive, after_receive};
-ghost use Rattle.session_core.specs.Runs.{binds};
+ghost use Rattle.session_core.specs.Runs.{binds as is_logon};
 ghost use Rattle.session_core.specs.declared.names.Names.{Names};
 ghost use Rattle.session_core.specs.declared.phases.Phase.TheVariants as Phase;
 ghost use Rattle.switchboard.specs.Board.{DeskChanges, PlugChanges, book_at, connection_at, desk_with, outgoing_at, place_at, session_at, with_connection};
+ghost use Rattle.switchboard.specs.Happenings.{BindsTo, Happens, IsNewNumber, answers, binds, dials, ends_bound, ends_unbound};
 
-use crate::board::Switchboard;
+use crate::board::{Switchboard, is_lawful};
 use connection_core::Connection;
 use gate_io::{LAST_MOMENT, NoMemory};
 use session_core::Cause;
@@ -43,8 +44,11 @@ impl Switchboard {
         ensures end { IfOk result (λ end. end ≡ (receive (book_at self.old s).machine body.items at).end) }
         ensures plugged { OnOk result (PlugChanges s k (Some k) self.old self.new) }
         ensures connection { OnOk result (connection_at self.new k ≡ record (connection_at self.old k) { session = Some s; out = (connection_at self.new k).out }) }
-        ensures on { IfOk result (λ end. (names : List Names) → (book_at self.old s).machine.dials ≡ None → binds names body.items ≡ true → end ≡ None → (book_at self.new s).machine.phase ≢ Phase.Off) }
+        ensures on { IfOk result (λ end. (names : List Names) → (book_at self.old s).machine.dials ≡ None → is_logon names body.items ≡ true → end ≡ None → (book_at self.new s).machine.phase ≢ Phase.Off) }
         ensures bound { OnOk result ((state_of (book_at self.new s).entries).bound ≡ Some (connection_at self.old k).number) }
+        // As a happening: of a session that accepts, on a connection that stands.
+        ensures binds { OnOk result ((names : List Names) → is_logon names body.items ≡ true → (book_at self.old s).machine.dials ≡ None → IsNone (connection_at self.old k).cause → BindsTo s k body.items at self.old self.new) }
+        ensures happens { IfOk result (λ end. (names : List Names) → is_logon names body.items ≡ true → (book_at self.old s).machine.dials ≡ None → IsNone (connection_at self.old k).cause → end ≡ None → Happens (binds s k body.items at) self.old self.new) }
         ensures err { OnErr result (DeskChanges s (Some k) self.old self.new) }
         ensures begun { OnErr result ((desk_with self.new s (Some k) ≡ desk_with self.old s (Some k)) ⊎ IsBegun at (receive (book_at self.old s).machine body.items at).acts (with_outbox (with_machine (after_receive (book_at self.old s).machine body.items at) (with_event (Binds (connection_at self.old k).number) (book_at self.old s))) (outgoing_at self.old (Some k))) (desk_with self.new s (Some k))) }
     {
@@ -53,6 +57,7 @@ impl Switchboard {
         let end = self.sessions[s].bind(alloc, number, body, at, connection.outbox())?;
         connection.bind(s as u16);
         self.places[s] = Some(k);
+        is_lawful(&self.sessions[s]);
         Ok(end)
     }
 
@@ -73,6 +78,7 @@ impl Switchboard {
         ensures nowhere { self.new.nowhere ≡ self.old.nowhere }
         ensures on { OnOk result ((book_at self.new s).machine.phase ≢ Phase.Off) }
         ensures bound { OnOk result ((state_of (book_at self.new s).entries).bound ≡ Some number) }
+        ensures happens { OnOk result (IsNewNumber self.old number → Happens (dials s number at) self.old self.new) }
         ensures err_places { OnErr result (self.new.places ≡ self.old.places) }
         ensures err_connections { OnErr result (take (length self.old.connections) self.new.connections ≡ self.old.connections) }
     {
@@ -83,13 +89,15 @@ impl Switchboard {
         self.connections.push(connection).unwrap();
         dialled?;
         self.places[s] = Some(k);
+        is_lawful(&self.sessions[s]);
         Ok(k)
     }
 
     /// The Logon of a dialled connection is answered: until then its first item alone is written.
     pub fn answer(&mut self, k: usize)
         requires { k < length self.old.connections }
-        ensures { self.new ≡ with_connection k (record (connection_at self.old k) { answered = true }) self.old }
+        ensures connection { self.new ≡ with_connection k (record (connection_at self.old k) { answered = true }) self.old }
+        ensures happens { Happens (answers k) self.old self.new }
     {
         self.connections[k].answer();
     }
@@ -97,7 +105,8 @@ impl Switchboard {
     /// A connection to which no session is bound ends by a cause. The first cause stays.
     pub fn end_unbound(&mut self, k: usize, cause: Cause)
         requires { k < length self.old.connections }
-        ensures { self.new ≡ with_connection k (after_end cause (connection_at self.old k)) self.old }
+        ensures connection { self.new ≡ with_connection k (after_end cause (connection_at self.old k)) self.old }
+        ensures happens { IsNone (connection_at self.old k).session → Happens (ends_unbound k cause) self.old self.new }
     {
         self.connections[k].end(cause);
     }
@@ -111,12 +120,14 @@ impl Switchboard {
         ensures connection { OnOk result (connection_at self.new k ≡ after_end cause (connection_at self.old k)) }
         ensures unplugged { OnOk result (PlugChanges s k None self.old self.new) }
         ensures bound { OnOk result ((state_of (book_at self.new s).entries).bound ≡ None) }
+        ensures happens { OnOk result (place_at self.old s ≡ Some k → Happens (ends_bound s k cause) self.old self.new) }
         ensures err { OnErr result ((book_at self.new s ≡ book_at self.old s) × DeskChanges s None self.old self.new) }
     {
         let number = self.connections[k].number();
         self.sessions[s].leave(number)?;
         self.places[s] = None;
         self.connections[k].end(cause);
+        is_lawful(&self.sessions[s]);
         Ok(())
     }
 }

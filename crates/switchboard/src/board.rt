@@ -6,6 +6,8 @@ ghost use Rattle.connection_core.specs.Outgoing.{no_outgoing};
 ghost use Rattle.connection_core.specs.declared.limits.TheConstants.{MOST_READ};
 ghost use Rattle.lease_core.specs.State.{state_of};
 ghost use Rattle.switchboard.specs.Board.{connection_at, place_at, session_at, with_connections, with_session_more};
+ghost use Rattle.switchboard.specs.Happenings.{Happens, IsNewNumber, accepts};
+ghost use Rattle.switchboard.specs.Sound.{IsLawful};
 
 use connection_core::{Connection, Outbox};
 use gate_io::NoMemory;
@@ -60,8 +62,10 @@ impl Switchboard {
     pub fn add(&mut self, book: SessionBook) -> Result<(), NoMemory>
         requires { (state_of book.book.entries).bound ≡ None }
         ensures ok { OnOk result (self.new ≡ with_session_more book self.old) }
+        ensures lawful { IsLawful book.book }
         ensures err { OnErr result (self.new ≡ self.old) }
     {
+        is_lawful(&book);
         self.places.reserve(1)?;
         self.sessions.reserve(1)?;
         self.places.push(None).unwrap();
@@ -75,6 +79,7 @@ impl Switchboard {
         ensures ok { IfOk result (λ k. self.new ≡ with_connections (self.old.connections ++ fresh number moment (connection_at self.new k).out ∷ []) self.old) }
         ensures none_waits { IfOk result (λ k. (connection_at self.new k).out.outgoing ≡ no_outgoing) }
         ensures room { IfOk result (λ k. MOST_READ ≤ room (connection_at self.new k)) }
+        ensures happens { OnOk result (IsNewNumber self.old number → Happens (accepts number moment) self.old self.new) }
         ensures err { OnErr result (self.new ≡ self.old) }
     {
         self.connections.reserve(1)?;
@@ -134,4 +139,11 @@ impl Switchboard {
         } = self;
         (sessions, connections)
     }
+}
+
+/// What holds of every session holds of this one.
+pub(crate) fn is_lawful(session: &SessionBook)
+    ensures { IsLawful session.now.book }
+{
+    let _ = session.expected();
 }

@@ -10,8 +10,9 @@ ghost use Rattle.resend_plan.specs.Fit.{IsFit};
 ghost use Rattle.session_book.specs.Acts.{after_lapse, after_request};
 ghost use Rattle.session_book.specs.Words.{after_timeout, after_word, shown_sends};
 ghost use Rattle.switchboard.specs.Board.{DeskChanges, book_at, desk_at, outlet_at, place_at, session_at, with_session};
+ghost use Rattle.switchboard.specs.Happenings.{Happens, lapses, requests, reserves, shows, times_out};
 
-use crate::board::Switchboard;
+use crate::board::{Switchboard, is_lawful};
 use gate_io::{Bytes, LAST_MOMENT, NoMemory};
 use lease_core::{Reply, Shown, Word};
 use std::alloc::Global;
@@ -26,7 +27,9 @@ impl Switchboard {
         ensures others { DeskChanges s (place_at self.old s) self.old self.new }
         ensures room { OnOk result (n ≤ (session_at self.new s).spare) }
         ensures outbox { OnOk result (n ≤ (outlet_at self.new (place_at self.old s)).spare) }
+        ensures happens { Happens (reserves s) self.old self.new }
     {
+        is_lawful(&self.sessions[s]);
         self.sessions[s].reserve(alloc, n)?;
         match self.places[s] {
             Some(k) => self.connections[k].outbox().reserve(n),
@@ -42,9 +45,12 @@ impl Switchboard {
         ensures reply { IfOk result (λ reply. reply ≡ reply_to (book_at self.old s).leases (state_of (book_at self.old s).entries) library from) }
         ensures lines { IfOk result (λ reply. lines_of (book_at self.new s).entries ≡ lines_after_reply (lines_of (book_at self.old s).entries) library reply) }
         ensures others { self.new ≡ with_session s (session_at self.new s) self.old }
+        ensures happens { OnOk result (Happens (requests s library nr from) self.old self.new) }
         ensures err { OnErr result (book_at self.new s ≡ book_at self.old s) }
     {
-        self.sessions[s].request(library, nr, from)
+        let reply = self.sessions[s].request(library, nr, from)?;
+        is_lawful(&self.sessions[s]);
+        Ok(reply)
     }
 
     /// The heir didn't come: a session waits for it no longer.
@@ -54,9 +60,12 @@ impl Switchboard {
         ensures book { OnOk result (book_at self.new s ≡ after_lapse (book_at self.old s)) }
         ensures lines { lines_of (book_at self.new s).entries ≡ lines_of (book_at self.old s).entries }
         ensures others { self.new ≡ with_session s (session_at self.new s) self.old }
+        ensures happens { OnOk result (Happens (lapses s) self.old self.new) }
         ensures err { OnErr result (book_at self.new s ≡ book_at self.old s) }
     {
-        self.sessions[s].lapse()
+        self.sessions[s].lapse()?;
+        is_lawful(&self.sessions[s]);
+        Ok(())
     }
 
     /// Records what a word of a session's last lease shows, with the bodies that were taken for its
@@ -85,13 +94,16 @@ impl Switchboard {
         ensures others { DeskChanges s (place_at self.old s) self.old self.new }
         ensures bound { (state_of (book_at self.new s).entries).bound ≡ (state_of (book_at self.old s).entries).bound }
         ensures phase { (book_at self.new s).machine.phase ≡ (book_at self.old s).machine.phase }
+        ensures happens { Happens (shows s w bodies.old.items at until) self.old self.new }
     {
-        match self.places[s] {
+        let shown = match self.places[s] {
             Some(k) => {
                 self.sessions[s].show(alloc, w, bodies, at, until, self.connections[k].outbox())
             }
             None => self.sessions[s].show(alloc, w, bodies, at, until, &mut self.nowhere),
-        }
+        };
+        is_lawful(&self.sessions[s]);
+        shown
     }
 
     /// The engine took a session back: records what the old word shows, and then that the lease was
@@ -120,8 +132,9 @@ impl Switchboard {
         ensures others { DeskChanges s (place_at self.old s) self.old self.new }
         ensures bound { (state_of (book_at self.new s).entries).bound ≡ (state_of (book_at self.old s).entries).bound }
         ensures phase { (book_at self.new s).machine.phase ≡ (book_at self.old s).machine.phase }
+        ensures happens { Happens (times_out s old bodies.old.items at until) self.old self.new }
     {
-        match self.places[s] {
+        let shown = match self.places[s] {
             Some(k) => {
                 self.sessions[s].time_out(
                     alloc,
@@ -133,6 +146,8 @@ impl Switchboard {
                 )
             }
             None => self.sessions[s].time_out(alloc, old, bodies, at, until, &mut self.nowhere),
-        }
+        };
+        is_lawful(&self.sessions[s]);
+        shown
     }
 }

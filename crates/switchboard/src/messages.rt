@@ -12,8 +12,9 @@ ghost use Rattle.session_core.specs.Receive.{receive};
 ghost use Rattle.session_core.specs.Tick.{tick};
 ghost use Rattle.session_core.specs.declared.phases.Phase.TheVariants as Phase;
 ghost use Rattle.switchboard.specs.Board.{DeskChanges, book_at, connection_at, desk_at, desk_with, place_at, session_at, with_connection};
+ghost use Rattle.switchboard.specs.Happenings.{Happens, gives, receives, takes, ticks};
 
-use crate::board::Switchboard;
+use crate::board::{Switchboard, is_lawful};
 use connection_core::OwnedPiece;
 use gate_io::{LAST_MOMENT, NoMemory};
 use session_core::Cause;
@@ -27,6 +28,7 @@ impl Switchboard {
         requires room { length bytes.now ≤ room (connection_at self.old k) }
         ensures ok { OnOk result (self.new ≡ with_connection k (after_taking bytes.now (connection_at self.old k)) self.old) }
         ensures given { (pieces : List CutPiece) → IsGiven (connection_at self.old k) pieces → IsGiven (connection_at self.new k) pieces }
+        ensures happens { OnOk result (Happens (takes k bytes.now) self.old self.new) }
         ensures err { OnErr result (self.new ≡ self.old) }
     {
         self.connections[k].take_in(bytes)
@@ -45,6 +47,7 @@ impl Switchboard {
         ensures given { (pieces : List CutPiece) → IsGiven (connection_at self.old k) pieces → IfOk result (λ given. MatchOption given
             (IsGiven (connection_at self.new k) pieces × ((cut LONGEST_FRAME (connection_at self.old k).taken).pieces ≡ pieces))
             (λ piece. IsGiven (connection_at self.new k) (pieces ++ cut_piece piece ∷ []))) }
+        ensures happens { OnOk result (Happens (gives k) self.old self.new) }
         ensures err { OnErr result (self.new ≡ self.old) }
     {
         self.connections[k].next(alloc)
@@ -70,8 +73,11 @@ impl Switchboard {
         ensures others { DeskChanges s (Some k) self.old self.new }
         ensures on { (book_at self.new s).machine.phase ≢ Phase.Off }
         ensures bound { (state_of (book_at self.new s).entries).bound ≡ (state_of (book_at self.old s).entries).bound }
+        ensures happens { OnOk result (place_at self.old s ≡ Some k → Happens (receives s k body.items at) self.old self.new) }
     {
-        self.sessions[s].receive(alloc, body, at, self.connections[k].outbox())
+        let end = self.sessions[s].receive(alloc, body, at, self.connections[k].outbox())?;
+        is_lawful(&self.sessions[s]);
+        Ok(end)
     }
 
     /// The clock stands at a moment. Answers the cause by which the connection ends to which the
@@ -85,10 +91,13 @@ impl Switchboard {
         ensures others { DeskChanges s (place_at self.old s) self.old self.new }
         ensures phase { (book_at self.new s).machine.phase ≡ (book_at self.old s).machine.phase }
         ensures bound { (state_of (book_at self.new s).entries).bound ≡ (state_of (book_at self.old s).entries).bound }
+        ensures happens { OnOk result (Happens (ticks s at) self.old self.new) }
     {
-        match self.places[s] {
+        let end = match self.places[s] {
             Some(k) => self.sessions[s].tick(alloc, at, self.connections[k].outbox()),
             None => self.sessions[s].tick(alloc, at, &mut self.nowhere),
-        }
+        }?;
+        is_lawful(&self.sessions[s]);
+        Ok(end)
     }
 }

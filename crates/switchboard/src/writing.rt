@@ -1,10 +1,11 @@
 //! What is to be written on the connections.
 
-ghost use Rattle.std.specs.Prelude.{◌≡◌, ◌<◌, ◌≤◌, length, take, OnErr, OnOk, true, false};
+ghost use Rattle.std.specs.Prelude.{◌≡◌, ◌<◌, ◌≤◌, length, take, Some, OnErr, OnOk, true, false};
 ghost use Rattle.std.specs.List.{All};
 ghost use Rattle.connection_core.specs.Outgoing.{HasMore, after_preparing, after_preparing_first, after_writing, waiting_text};
 ghost use Rattle.resend_plan.specs.Wire.{NamesEntry};
 ghost use Rattle.switchboard.specs.Board.{book_at, connection_at, names_at, with_connection};
+ghost use Rattle.switchboard.specs.Happenings.{Happens, prepares, writes};
 
 use crate::board::Switchboard;
 use gate_io::NoMemory;
@@ -28,6 +29,7 @@ impl Switchboard {
         ensures answered { (connection_at self.old k).answered ≡ true → OnOk result ((connection_at self.new k).out.outgoing ≡ after_preparing (names_at self.old s) (book_at self.old s).outbound limit (connection_at self.old k).out.outgoing) }
         ensures unanswered { (connection_at self.old k).answered ≡ false → OnOk result ((connection_at self.new k).out.outgoing ≡ after_preparing_first (names_at self.old s) (book_at self.old s).outbound (connection_at self.old k).out.outgoing) }
         ensures more { HasMore (names_at self.old s) (book_at self.old s).outbound (connection_at self.old k).out.outgoing (connection_at self.new k).out.outgoing }
+        ensures happens { (connection_at self.old k).session ≡ Some s → Happens (prepares s k) self.old self.new }
         // Without memory no text is made that wasn't asked for.
         ensures unanswered_err { (connection_at self.old k).answered ≡ false → OnErr result ((connection_at self.new k).out.outgoing ≡ (connection_at self.old k).out.outgoing) }
         ensures again { (connection_at self.old k).answered ≡ true
@@ -44,6 +46,7 @@ impl Switchboard {
         requires within { n ≤ length (waiting_text (connection_at self.old k).out.outgoing) }
         ensures others { self.new ≡ with_connection k (record (connection_at self.old k) { out = (connection_at self.new k).out }) self.old }
         ensures outgoing { (connection_at self.new k).out.outgoing ≡ after_writing n (connection_at self.old k).out.outgoing }
+        ensures happens { Happens (writes k n) self.old self.new }
     {
         self.connections[k].outbox().wrote(n);
     }

@@ -14,3 +14,10 @@ returns-clause-more c = let e = names_are _ c.written_names.result.now c.written
 
 pub returns-clause-again : goal.returns-clause-again
 returns-clause-again c = let e = names_are _ c.written_names.result.now c.written_names.ensures.names in grind (arith, common_steps)
+
+pub returns-clause-happens : goal.returns-clause-happens
+returns-clause-happens c = λ names. record {
+  names = names;
+  changes = record { within = c.requires.connection; others = grind (arith, common_steps) };
+  more = (let e = names_are _ c.written_names.result.now c.written_names.ensures.names in grind (arith, common_steps));
+}
