@@ -1,2 +1,6 @@
 pub mod Names
 pub mod Sounds
+pub mod Turns
+pub mod TextLaws
+pub mod Changes
+pub mod Readies

@@ -8,16 +8,16 @@ use Rattle.session_book.specs.Kept.{Kept}
 use Rattle.switchboard.specs.Board.{Board, DeskChanges, OutboxChanges, PlugChanges, book_at, connection_at, no_connection, no_session, place_at, session_at, with_connection, with_connections, with_session, with_session_more}
 use Rattle.switchboard.specs.Sound.{IsPlaced, IsSameLine, IsSound, bound_of}
 
-same_or_other : (i j : ℕ) → (i ≡ j) ⊎ (i ≢ j)
+pub same_or_other : (i j : ℕ) → (i ≡ j) ⊎ (i ≢ j)
 same_or_other zero zero = inl refl
 same_or_other zero (suc j) = inr (λ e. absurd (omega arith))
 same_or_other (suc i) zero = inr (λ e. absurd (omega arith))
 same_or_other (suc i) (suc j) = elim (same_or_other i j) [ inl e ↦ inl (ap suc e) | inr n ↦ inr (λ e. n (omega arith)) ]
 
-same_number : (a b : ℕ) → Some a ≡ Some b → a ≡ b
+pub same_number : (a b : ℕ) → Some a ≡ Some b → a ≡ b
 same_number a b e = (cc)
 
-none_some : (a : ℕ) → None ≡ Some a → ⊥
+pub none_some : {T : Type 0} (a : T) → None ≡ Some a → ⊥
 none_some a e = (cc)
 
 -- nothing changes of what a sound board tells
@@ -67,7 +67,7 @@ line_set xs i j x within same = record {
   number = set_keeps (λ (c : ConnectionState). c.number) xs i j x no_connection within same.number;
 }
 
-same_line : (c : ConnectionState) → IsSameLine c c
+pub same_line : (c : ConnectionState) → IsSameLine c c
 same_line c = record { session = refl; cause = refl; number = refl }
 
 -- one connection takes bytes, gives a piece or is written to
@@ -92,7 +92,7 @@ session_sound board s kept within same sound =
       lines = λ j small. same_line (connection_at board j);
     }) sound
 
-outbox_lines : (place : Option ℕ) (old new : Board) → OutboxChanges place old new → ((k : ℕ) → place ≡ Some k → k < length old.connections)
+pub outbox_lines : (place : Option ℕ) (old new : Board) → OutboxChanges place old new → ((k : ℕ) → place ≡ Some k → k < length old.connections)
     → (length new.connections ≡ length old.connections) × ((j : ℕ) → IsSameLine (connection_at old j) (connection_at new j))
 outbox_lines None old new same within = (ap length same, λ j. subst (λ cs. IsSameLine (connection_at old j) (get_or cs j no_connection)) (sym same) (same_line (connection_at old j)))
 outbox_lines (Some k) old new same within =
@@ -199,25 +199,25 @@ module _ (board : Board) (c : ConnectionState) (unbound : c.session ≡ None) (s
 
 -- a session is bound to a connection, or leaves it
 module _ (s k : ℕ) (place : Option ℕ) (old new : Board) (small : s < length old.sessions) (within : k < length old.connections) (plug : PlugChanges s k place old new) (sound : IsSound old) where
-  plug_sessions : length new.sessions ≡ length old.sessions
+  pub plug_sessions : length new.sessions ≡ length old.sessions
   plug_sessions = ap length plug.sessions ∙ length-set old.sessions s (session_at new s)
 
-  plug_connections : length new.connections ≡ length old.connections
+  pub plug_connections : length new.connections ≡ length old.connections
   plug_connections = ap length plug.connections ∙ length-set old.connections k (connection_at new k)
 
   plug_places : length new.places ≡ length new.sessions
   plug_places = ap length plug.places ∙ length-set old.places s place ∙ sound.places ∙ sym plug_sessions
 
-  place_here : place_at new s ≡ place
+  pub place_here : place_at new s ≡ place
   place_here = ap (λ places. get_or places s None) plug.places ∙ get_or-set_same old.places s place None (subst (λ n. s < n) (sym sound.places) small)
 
-  place_there : (j : ℕ) → j ≢ s → place_at new j ≡ place_at old j
+  pub place_there : (j : ℕ) → j ≢ s → place_at new j ≡ place_at old j
   place_there j other = ap (λ places. get_or places j None) plug.places ∙ get_or-set_other old.places s j place None other
 
-  book_there : (j : ℕ) → j ≢ s → book_at new j ≡ book_at old j
+  pub book_there : (j : ℕ) → j ≢ s → book_at new j ≡ book_at old j
   book_there j other = ap (λ (sessions : List Kept). (get_or sessions j no_session).book) plug.sessions ∙ ap (λ (x : Kept). x.book) (get_or-set_other old.sessions s j (session_at new s) no_session other)
 
-  line_there : (j : ℕ) → j ≢ k → connection_at new j ≡ connection_at old j
+  pub line_there : (j : ℕ) → j ≢ k → connection_at new j ≡ connection_at old j
   line_there j other = ap (λ (cs : List ConnectionState). get_or cs j no_connection) plug.connections ∙ get_or-set_other old.connections k j (connection_at new k) no_connection other
 
   -- the other sessions, which aren't bound to this connection

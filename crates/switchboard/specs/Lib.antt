@@ -1,3 +1,4 @@
 pub mod Board
 pub mod Sound
 pub mod Happenings
+pub mod Ready

@@ -1,10 +1,22 @@
 //! Laws of the definitions. Each is the contract of a function that does nothing.
 
-ghost use Rattle.std.specs.Prelude.{◌≡◌, ◌≢◌, ℕ, ◌<◌, [], ◌∷◌, ◌++◌, length, slice_set, Option, None, Some};
+ghost use Rattle.std.specs.Prelude.{◌≡◌, ◌≢◌, ℕ, ◌<◌, List, [], ◌∷◌, ◌++◌, length, slice_set, Option, None, Some, IfSome};
+ghost use Rattle.std.specs.List.{All};
 ghost use Rattle.connection_core.specs.Connection.{ConnectionState};
+ghost use Rattle.lease_core.specs.declared.entry.Entry.{Entry};
+ghost use Rattle.resend_plan.specs.Wire.{NamesEntry};
+ghost use Rattle.session_core.specs.Receive.{receive};
+ghost use Rattle.session_core.specs.declared.causes.Cause.{Cause};
+ghost use Rattle.session_core.specs.declared.phases.Phase.TheVariants as Phase;
+ghost use Rattle.session_book.specs.Acts.{IsBoundIn};
 ghost use Rattle.session_book.specs.Kept.{Kept};
 ghost use Rattle.switchboard.specs.Board.{Board, DeskChanges, PlugChanges, book_at, connection_at, place_at, session_at, with_connection, with_connections, with_session, with_session_more};
-ghost use Rattle.switchboard.specs.Sound.{IsSameLine, IsSound, bound_of};
+ghost use Rattle.switchboard.specs.Happenings.{BindsTo, Happening, Happens, Reaches, binds_and_ends, ends_bound};
+ghost use Rattle.switchboard.specs.Ready.{IsFirst, IsReady, entries_of};
+ghost use Rattle.switchboard.specs.Sound.{IsLawful, IsPlugged, IsSameLine, IsSound, bound_of};
+
+use connection_core::items_stay_queued;
+use session_book::laws::{sends_are_told, texts_are_told, texts_stay};
 
 /// Sessions and connections stay sound: each session is bound to a connection just where it has a
 /// place, and that stands and names it.
@@ -34,3 +46,42 @@ pub fn boards_stay_sound()
     // What the calls ask of a session's place.
     ensures place { (board : Board) (s k : ℕ) → IsSound board → s < length board.sessions → place_at board s ≡ Some k → k < length board.connections }
 {}
+
+/// What holds of sessions and connections at first, and behind whatever happened.
+pub fn boards_stay_ready()
+    ensures first { (before : ℕ → List Entry) (board : Board) → IsFirst before board → IsReady before board }
+    // Such a board has sessions that were added one by one.
+    ensures none { (board : Board) → board.sessions ≡ [] → board.places ≡ [] → board.connections ≡ [] → IsFirst (entries_of board) board }
+    ensures add { (board : Board) (kept : Kept) → bound_of kept.book ≡ None → IsLawful kept.book → IsFirst (entries_of board) board
+        → IsFirst (entries_of (with_session_more kept board)) (with_session_more kept board) }
+    // Whatever happens, one call or many.
+    ensures happening { (before : ℕ → List Entry) (happening : Happening) (old new : Board) → Happens happening old new → IsReady before old → IsReady before new }
+    ensures run { (before : ℕ → List Entry) (happenings : List Happening) (old new : Board) → Reaches happenings old new → IsReady before old → IsReady before new }
+    // One run behind another.
+    ensures one { (happening : Happening) (old new : Board) → Happens happening old new → Reaches (happening ∷ []) old new }
+    ensures further { (first second : List Happening) (old between new : Board) → Reaches first old between → Reaches second between new → Reaches (first ++ second) old new }
+    // A bind whose Logon ends the connection, and that end, are one happening.
+    ensures ends { (s k : ℕ) (body : List ℕ) (at : ℕ) (cause : Cause) (old between new : Board) → BindsTo s k body at old between → (receive (book_at old s).machine body at).end ≡ Some cause
+        → Happens (ends_bound s k cause) between new → Happens (binds_and_ends s k body at cause) old new }
+{
+    texts_are_told();
+    texts_stay();
+    sends_are_told();
+    items_stay_queued();
+}
+
+/// What the calls ask holds on a board that is ready.
+pub fn ready_boards_allow()
+    ensures place { (before : ℕ → List Entry) (board : Board) (s : ℕ) → IsReady before board → s < length board.sessions → IfSome (place_at board s) (λ k. k < length board.connections) }
+    // Of a session that is bound.
+    ensures plugged { (before : ℕ → List Entry) (board : Board) (s k : ℕ) → IsReady before board → s < length board.sessions → place_at board s ≡ Some k → IsPlugged board s k }
+    ensures bound { (before : ℕ → List Entry) (board : Board) (s k : ℕ) → IsReady before board → s < length board.sessions → place_at board s ≡ Some k → IsBoundIn (book_at board s) }
+    ensures on { (before : ℕ → List Entry) (board : Board) (s k : ℕ) → IsReady before board → s < length board.sessions → place_at board s ≡ Some k → (book_at board s).machine.phase ≢ Phase.Off }
+    // Of one that isn't.
+    ensures free { (before : ℕ → List Entry) (board : Board) (s : ℕ) → IsReady before board → s < length board.sessions → place_at board s ≡ None → bound_of (book_at board s) ≡ None }
+    // Of a connection that names a session, also once it has ended.
+    ensures named { (before : ℕ → List Entry) (board : Board) (s k : ℕ) → IsReady before board → k < length board.connections → (connection_at board k).session ≡ Some s
+        → All (NamesEntry (book_at board s).outbound) (connection_at board k).out.outgoing.unmade }
+{
+    texts_are_told();
+}
