@@ -11,15 +11,14 @@ use Rattle.lease_core.specs.declared.entry.Entry.{Entry}
 use Rattle.lease_core.specs.declared.entry.Entry.TheVariants.{Leave}
 use Rattle.session_core.specs.declared.causes.Cause.{Cause}
 use Rattle.session_book.specs.Book.{Book, IsSameSession, with_outbox}
-use Rattle.session_book.specs.Kept.{Kept}
 use Rattle.session_book.specs.Texts.{IsTextOf}
-use Rattle.switchboard.specs.Board.{Board, OutboxChanges, book_at, connection_at, desk_at, desk_with, names_at, no_connection, no_session, outgoing_at, place_at, session_at, with_connection, with_connections}
+use Rattle.switchboard.specs.Board.{Board, OutboxChanges, book_at, connection_at, desk_at, desk_with, names_at, no_connection, outgoing_at, place_at, with_connection, with_connections}
 use Rattle.switchboard.specs.Happenings.{BindsTo, Dials, EndsBound, IsNewNumber, SessionGoesOn}
 use Rattle.switchboard.specs.Ready.{HasTextOf}
 use Rattle.switchboard.specs.Sound.{IsPlaced, IsPlugged, IsSameLine, IsSound, bound_of}
 use Rattle.switchboard.proofs.Sounds.{accept_sound, bind_sound, book_there, desk_sound, dial_sound, end_sound, line_there, none_some, outbox_lines, place_here, place_there, place_within, plug_connections, plug_sessions, same_number}
 use Rattle.switchboard.proofs.TextLaws.{KeepsTexts, OpensText, TextLaws}
-use Rattle.switchboard.proofs.Turns.{AreOn, AreOnBut, IsNearly, Turns, all_but, on_all, on_but, turned}
+use Rattle.switchboard.proofs.Turns.{AreOn, AreOnBut, IsNearly, Turns, all_but, on_all, on_but, set_books, set_sessions, turned}
 
 pub none_is : {T : Type 0} (o : Option T) → IsNone o → o ≡ None
 none_is None is = refl
@@ -32,14 +31,13 @@ same_names old new s same = ap (λ names. record { us = names.us; them = names.t
 -- one session goes on, with what waits on its connection
 module _ (before : ℕ → List Entry) (s : ℕ) (old new : Board) (goes : SessionGoesOn s old new) where
   books_there : (j : ℕ) → j ≢ s → book_at new j ≡ book_at old j
-  books_there j other =
-      ap (λ (sessions : List Kept). (get_or sessions j no_session).book) goes.others.sessions ∙ ap (λ (x : Kept). x.book) (get_or-set_other old.sessions s j (session_at new s) no_session other)
+  books_there = set_books s old new goes.others.sessions
 
   places_stay : (j : ℕ) → place_at new j ≡ place_at old j
   places_stay j = ap (λ places. get_or places j None) goes.others.places
 
   sessions_stay : length new.sessions ≡ length old.sessions
-  sessions_stay = ap length goes.others.sessions ∙ length-set old.sessions s (session_at new s)
+  sessions_stay = set_sessions s old new goes.others.sessions
 
   stays_sound : IsSound old → IsSound new
   stays_sound sound = desk_sound s (place_at old s) old new goes.within (λ k at. place_within old s k sound goes.within at) goes.others goes.bound sound
@@ -292,11 +290,10 @@ module _ (g : TextLaws) (before : ℕ → List Entry) (s number at : ℕ) (old n
       (small, ap (λ (cs : List ConnectionState). get_or cs i no_connection) dials.connection ∙ get_or-append old.connections _ no_connection i small)
 
   dial_sessions : length new.sessions ≡ length old.sessions
-  dial_sessions = ap length dials.sessions ∙ length-set old.sessions s (session_at new s)
+  dial_sessions = set_sessions s old new dials.sessions
 
   dial_books : (j : ℕ) → j ≢ s → book_at new j ≡ book_at old j
-  dial_books j other =
-      ap (λ (sessions : List Kept). (get_or sessions j no_session).book) dials.sessions ∙ ap (λ (x : Kept). x.book) (get_or-set_other old.sessions s j (session_at new s) no_session other)
+  dial_books = set_books s old new dials.sessions
 
   dial_places : (j : ℕ) → j ≢ s → place_at new j ≡ place_at old j
   dial_places j other = ap (λ places. get_or places j None) dials.places ∙ get_or-set_other old.places s j (Some (length old.connections)) None other

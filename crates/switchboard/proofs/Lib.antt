@@ -4,3 +4,5 @@ pub mod Turns
 pub mod TextLaws
 pub mod Changes
 pub mod Readies
+pub mod RunLaws
+pub mod Telling

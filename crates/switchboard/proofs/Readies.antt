@@ -32,7 +32,7 @@ use Rattle.switchboard.proofs.Turns.{all_but, nearly, on_all, with_on}
 raises_back : (lines : List Line) (w : Word) → CanTimeOut lines w → raises lines w ≡ true
 raises_back lines w can = and_from _ _ (and_from _ _ (eq-eqb w.lease (length lines) can.showable.lease) (lt-ltb 0 _ can.owned)) (le-leb _ w.count can.showable.count)
 
-all_shown : (entries : List Entry) (w : Word) → CanTimeOut (lines_of entries) w → shown_sends entries w ≡ missing_sends (lines_of entries) w
+pub all_shown : (entries : List Entry) (w : Word) → CanTimeOut (lines_of entries) w → shown_sends entries w ≡ missing_sends (lines_of entries) w
 all_shown entries w can = rw (raises_back (lines_of entries) w can) refl
 
 -- what a session does without its connection is an event of both
@@ -48,7 +48,7 @@ outbox_same (Some k) old new connections nowhere =
     ap (λ (cs : List ConnectionState). record (connection_at old k) { out = (get_or cs k no_connection).out }) connections in
     (connections ∙ sym (set_same old.connections k no_connection) ∙ ap (λ (c : ConnectionState). set old.connections k c) (sym out), nowhere)
 
-book_goes_on : (s : ℕ) (book : Book) (old new : Board) → BookChanges s book old new → SessionGoesOn s old new
+pub book_goes_on : (s : ℕ) (book : Book) (old new : Board) → BookChanges s book old new → SessionGoesOn s old new
 book_goes_on s book old new changes = record {
   within = changes.within;
   others = record {

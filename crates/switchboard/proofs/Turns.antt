@@ -1,12 +1,14 @@
 -- What holds of a board goes on where one session and one connection change, and nothing else.
-use Rattle.std.proofs.Common.{◌≡◌, ◌≢◌, inl, inr, ℕ, ◌<◌, List, ◌++◌, length, None, Some, sym, ap, subst, ◌∙◌, append_assoc}
+use Rattle.std.proofs.Common.{◌≡◌, ◌≢◌, inl, inr, ℕ, ◌<◌, List, ◌++◌, length, get_or, set, None, Some, sym, ap, subst, ◌∙◌, append_assoc}
+use Rattle.std.proofs.lemmas.List.{get_or-set_other, length-set}
 use Rattle.connection_core.specs.Connection.{ConnectionState}
 use Rattle.connection_core.specs.Outgoing.{no_outgoing}
 use Rattle.lease_core.specs.declared.entry.Entry.{Entry}
 use Rattle.session_core.specs.declared.phases.Phase.TheVariants.{Off}
 use Rattle.session_book.specs.Book.{Book}
+use Rattle.session_book.specs.Kept.{Kept}
 use Rattle.session_book.specs.Texts.{IsTextOf}
-use Rattle.switchboard.specs.Board.{Board, book_at, connection_at, names_at, place_at}
+use Rattle.switchboard.specs.Board.{Board, book_at, connection_at, names_at, no_session, place_at, session_at}
 use Rattle.switchboard.specs.Ready.{GoOnFrom, HasTextOf, IsReady}
 use Rattle.switchboard.specs.Sound.{IsLawful, IsSound}
 use Rattle.switchboard.proofs.Sounds.{same_or_other}
@@ -16,6 +18,14 @@ go_on_further before middle entries first second = record {
   added = first.added ++ second.added;
   are = second.are ∙ ap (λ es. es ++ second.added) first.are ∙ append_assoc before first.added second.added;
 }
+
+-- where one session changes, the others are as they were
+pub set_books : (s : ℕ) (old new : Board) → new.sessions ≡ set old.sessions s (session_at new s) → (j : ℕ) → j ≢ s → book_at new j ≡ book_at old j
+set_books s old new same j other =
+    ap (λ (sessions : List Kept). (get_or sessions j no_session).book) same ∙ ap (λ (x : Kept). x.book) (get_or-set_other old.sessions s j (session_at new s) no_session other)
+
+pub set_sessions : (s : ℕ) (old new : Board) → new.sessions ≡ set old.sessions s (session_at new s) → length new.sessions ≡ length old.sessions
+set_sessions s old new same = ap length same ∙ length-set old.sessions s (session_at new s)
 
 -- each session that has a place is on
 abbrev pub AreOn : Board → Type 0

@@ -2,3 +2,4 @@ pub mod Board
 pub mod Sound
 pub mod Happenings
 pub mod Ready
+pub mod Told

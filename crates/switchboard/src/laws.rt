@@ -1,11 +1,12 @@
 //! Laws of the definitions. Each is the contract of a function that does nothing.
 
-ghost use Rattle.std.specs.Prelude.{◌≡◌, ◌≢◌, ℕ, ◌<◌, List, [], ◌∷◌, ◌++◌, length, slice_set, Option, None, Some, IfSome};
+ghost use Rattle.std.specs.Prelude.{◌≡◌, ◌≢◌, ℕ, ◌<◌, ◌≤◌, List, [], ◌∷◌, ◌++◌, length, slice_set, Option, None, Some, IfSome};
 ghost use Rattle.std.specs.List.{All};
 ghost use Rattle.connection_core.specs.Connection.{ConnectionState};
 ghost use Rattle.lease_core.specs.declared.entry.Entry.{Entry};
 ghost use Rattle.resend_plan.specs.Wire.{NamesEntry};
 ghost use Rattle.session_core.specs.Receive.{receive};
+ghost use Rattle.session_core.specs.State.{State};
 ghost use Rattle.session_core.specs.declared.causes.Cause.{Cause};
 ghost use Rattle.session_core.specs.declared.phases.Phase.TheVariants as Phase;
 ghost use Rattle.session_book.specs.Acts.{IsBoundIn};
@@ -14,9 +15,10 @@ ghost use Rattle.switchboard.specs.Board.{Board, DeskChanges, PlugChanges, book_
 ghost use Rattle.switchboard.specs.Happenings.{BindsTo, Happening, Happens, Reaches, binds_and_ends, ends_bound};
 ghost use Rattle.switchboard.specs.Ready.{IsFirst, IsReady, entries_of};
 ghost use Rattle.switchboard.specs.Sound.{IsLawful, IsPlugged, IsSameLine, IsSound, bound_of};
+ghost use Rattle.switchboard.specs.Told.{ComeInOrder, History, IsTold, history_after, history_over, machines_of, moment_after, moment_over, no_history};
 
 use connection_core::items_stay_queued;
-use session_book::laws::{sends_are_told, texts_are_told, texts_stay};
+use session_book::laws::{beats_come_in_time, sends_are_told, texts_are_told, texts_stay};
 
 /// Sessions and connections stay sound: each session is bound to a connection just where it has a
 /// place, and that stands and names it.
@@ -68,6 +70,22 @@ pub fn boards_stay_ready()
     texts_stay();
     sends_are_told();
     items_stay_queued();
+}
+
+/// What each session's journal tells of its connections, of the time and of its libraries' sends is
+/// what happened to it, over every list of happenings in the order of their moments.
+pub fn boards_stay_told()
+    // At first nothing was handled, and nothing sent that is told.
+    ensures first { (before : ℕ → List Entry) (moment : ℕ) (board : Board) → IsFirst before board → ((s : ℕ) → s < length board.sessions → (book_at board s).machine.sent ≤ moment)
+        → IsTold before (machines_of board) no_history moment board }
+    ensures happening { (before : ℕ → List Entry) (start : ℕ → State) (happening : Happening) (history : History) (moment : ℕ) (old new : Board) → Happens happening old new → IsReady before old
+        → moment ≤ moment_after happening moment → IsTold before start history moment old → IsTold before start (history_after happening old history) (moment_after happening moment) new }
+    ensures run { (before : ℕ → List Entry) (start : ℕ → State) (happenings : List Happening) (history : History) (moment : ℕ) (old new : Board) (reached : Reaches happenings old new) → IsReady before old
+        → ComeInOrder moment happenings → IsTold before start history moment old → IsTold before start (history_over happenings old new reached history) (moment_over happenings moment) new }
+{
+    boards_stay_ready();
+    beats_come_in_time();
+    sends_are_told();
 }
 
 /// What the calls ask holds on a board that is ready.
