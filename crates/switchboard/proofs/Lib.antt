@@ -6,3 +6,4 @@ pub mod Changes
 pub mod Readies
 pub mod RunLaws
 pub mod Telling
+pub mod Bringing

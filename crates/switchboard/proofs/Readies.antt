@@ -181,7 +181,7 @@ module _ (g : TextLaws) (before : ℕ → List Entry) where
       run_ready happenings reached.0 new reached.1.1 (happening_ready happening old reached.0 reached.1.0 ready)
 
 -- at first
-no_connections : (board : Board) (k : ℕ) → board.connections ≡ [] → k < length board.connections → ⊥
+pub no_connections : (board : Board) (k : ℕ) → board.connections ≡ [] → k < length board.connections → ⊥
 no_connections board k none within = let same = ap length none in absurd (omega arith)
 
 pub first_ready : (before : ℕ → List Entry) (board : Board) → IsFirst before board → IsReady before board

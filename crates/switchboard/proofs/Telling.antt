@@ -22,10 +22,10 @@ use Rattle.switchboard.proofs.RunLaws.{RunLaws, Tells, as_handled, as_sent, hand
 use Rattle.switchboard.proofs.Sounds.{same_or_other}
 use Rattle.switchboard.proofs.Turns.{set_books, set_sessions}
 
-changed_here : {T : Type 0} (s : ℕ) (change : T → T) (all : ℕ → T) → changed_at s change all s ≡ change (all s)
+pub changed_here : {T : Type 0} (s : ℕ) (change : T → T) (all : ℕ → T) → changed_at s change all s ≡ change (all s)
 changed_here s change all = ap (λ b. cond b (change (all s)) (all s)) (eq-eqb s s refl)
 
-changed_there : {T : Type 0} (s : ℕ) (change : T → T) (all : ℕ → T) (j : ℕ) → j ≢ s → changed_at s change all j ≡ all j
+pub changed_there : {T : Type 0} (s : ℕ) (change : T → T) (all : ℕ → T) (j : ℕ) → j ≢ s → changed_at s change all j ≡ all j
 changed_there s change all j other = ap (λ b. cond b (change (all j)) (all j)) (ne_eqb j s other)
 
 -- the history of one session changes in these ways

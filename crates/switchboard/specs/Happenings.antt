@@ -1,7 +1,9 @@
 -- What can happen to sessions and connections, and what becomes of a board by it.
-use Rattle.std.specs.Prelude.{◌≡◌, ◌≢◌, ℕ, ◌<◌, ◌≤◌, length, List, [], ◌∷◌, ◌++◌, slice_set, true, None, Some, IsNone}
-use Rattle.connection_core.specs.Connection.{ConnectionState, after_end, after_next, after_taking, fresh, fresh_dial}
+use Rattle.std.specs.Prelude.{◌≡◌, ◌≢◌, ℕ, ◌<◌, ◌≤◌, length, List, [], ◌∷◌, ◌++◌, slice_set, true, Option, None, Some, IsNone}
+use Rattle.connection_core.specs.Connection.{ConnectionState, IsGiven, after_end, after_next, after_taking, fresh, fresh_dial}
 use Rattle.connection_core.specs.Outgoing.{HasMore, after_writing, no_outgoing, waiting_text}
+use Rattle.fix_frame.specs.Cut.{CutPiece, Found, piece_at}
+use Rattle.fix_frame.specs.declared.layout.TheConstants.{LONGEST_FRAME}
 use Rattle.lease_core.specs.Lines.{lines_of, missing_sends}
 use Rattle.lease_core.specs.Showable.{CanTimeOut}
 use Rattle.lease_core.specs.declared.word.Word.{Word}
@@ -92,10 +94,20 @@ pub record Dials (s number at : ℕ) (old new : Board) : Type 0 where
 pub record Takes (k : ℕ) (bytes : List ℕ) (old new : Board) : Type 0 where
   pub stands : IsNone (connection_at old k).cause
   pub changes : ConnectionChanges k (after_taking bytes (connection_at old k)) old new
+  pub given : (pieces : List CutPiece) → IsGiven (connection_at old k) pieces → IsGiven (connection_at new k) pieces
+
+-- the piece that stands at the beginning of what is held, if one does
+abbrev pub piece_list : Option Found → List CutPiece
+piece_list None = []
+piece_list (Some found) = found.piece ∷ []
+
+abbrev pub next_pieces : ConnectionState → List CutPiece
+next_pieces connection = piece_list (piece_at LONGEST_FRAME connection.held)
 
 pub record Gives (k : ℕ) (old new : Board) : Type 0 where
   pub stands : IsNone (connection_at old k).cause
   pub changes : ConnectionChanges k (after_next (connection_at old k)) old new
+  pub given : (pieces : List CutPiece) → IsGiven (connection_at old k) pieces → IsGiven (connection_at new k) (pieces ++ next_pieces (connection_at old k))
 
 -- a session that accepts and is bound to none is bound to a connection that stands, by a Logon of some names
 pub record BindsTo (s k : ℕ) (body : List ℕ) (at : ℕ) (old new : Board) : Type 0 where

@@ -3,3 +3,4 @@ pub mod Sound
 pub mod Happenings
 pub mod Ready
 pub mod Told
+pub mod Brought

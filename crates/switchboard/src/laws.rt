@@ -12,6 +12,7 @@ ghost use Rattle.session_core.specs.declared.phases.Phase.TheVariants as Phase;
 ghost use Rattle.session_book.specs.Acts.{IsBoundIn};
 ghost use Rattle.session_book.specs.Kept.{Kept};
 ghost use Rattle.switchboard.specs.Board.{Board, DeskChanges, PlugChanges, book_at, connection_at, place_at, session_at, with_connection, with_connections, with_session, with_session_more};
+ghost use Rattle.switchboard.specs.Brought.{Brought, IsBrought, TakeWhatIsInHand, TakesWhatIsInHand, brought_after, brought_over, nothing_brought};
 ghost use Rattle.switchboard.specs.Happenings.{BindsTo, Happening, Happens, Reaches, binds_and_ends, ends_bound};
 ghost use Rattle.switchboard.specs.Ready.{IsFirst, IsReady, entries_of};
 ghost use Rattle.switchboard.specs.Sound.{IsLawful, IsPlugged, IsSameLine, IsSound, bound_of};
@@ -86,6 +87,18 @@ pub fn boards_stay_told()
     boards_stay_ready();
     beats_come_in_time();
     sends_are_told();
+}
+
+/// The messages that a session handled of a connection are those of the pieces that were handed out
+/// of it, over every list of happenings in which a session handles what is in hand.
+pub fn pieces_are_handled()
+    ensures first { (before : ℕ → List Entry) (board : Board) → IsFirst before board → IsBrought no_history (λ k. nothing_brought) board }
+    ensures happening { (before : ℕ → List Entry) (happening : Happening) (history : History) (brought : ℕ → Brought) (old new : Board) → Happens happening old new → IsReady before old
+        → TakesWhatIsInHand happening brought → IsBrought history brought old → IsBrought (history_after happening old history) (brought_after happening old brought) new }
+    ensures run { (before : ℕ → List Entry) (happenings : List Happening) (history : History) (brought : ℕ → Brought) (old new : Board) (reached : Reaches happenings old new) → IsReady before old
+        → TakeWhatIsInHand happenings old new reached brought → IsBrought history brought old → IsBrought (history_over happenings old new reached history) (brought_over happenings old new reached brought) new }
+{
+    boards_stay_ready();
 }
 
 /// What the calls ask holds on a board that is ready.
