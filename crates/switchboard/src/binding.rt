@@ -79,6 +79,7 @@ impl Switchboard {
         ensures on { OnOk result ((book_at self.new s).machine.phase ≢ Phase.Off) }
         ensures bound { OnOk result ((state_of (book_at self.new s).entries).bound ≡ Some number) }
         ensures happens { OnOk result (IsNewNumber self.old number → Happens (dials s number at) self.old self.new) }
+        ensures begun { OnErr result ((book_at self.new s ≡ book_at self.old s) ⊎ IsBegun at (ask (book_at self.old s).machine).acts (with_outbox (with_machine (after_ask (book_at self.old s).machine at) (with_event (Binds number) (book_at self.old s))) no_outgoing) (desk_with self.new s (Some (length self.old.connections)))) }
         ensures err_places { OnErr result (self.new.places ≡ self.old.places) }
         ensures err_connections { OnErr result (take (length self.old.connections) self.new.connections ≡ self.old.connections) }
     {
