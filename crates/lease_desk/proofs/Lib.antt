@@ -1,0 +1,6 @@
+pub mod Gathers
+pub mod GoingOn
+pub mod Grants
+pub mod Happened
+pub mod InStep
+pub mod Takes
