@@ -1,0 +1,103 @@
+//! One library in a turn.
+
+ghost use Rattle.std.specs.Prelude.{◌≡◌, ◌≤◌, length, IfOk, OnOk};
+ghost use Rattle.library_desk.specs.Serving.{Answers, HasRoomFor, IsLinked, IsInOrder, LooksAt, OnPopped, Serves, TellsTo};
+
+use crate::desk::LibraryDesk;
+use crate::ends::Next;
+use crate::shared::Shared;
+use gate_io::{LAST_MOMENT, NoMemory};
+use lease_core::{Command, Notice};
+use std::alloc::Global;
+
+/// What became of a library's command in a turn.
+#[derive(Clone, Copy, Debug, PartialEq, Eq)]
+pub enum LibTurn {
+    /// The library's notice ring had no room by these counts, so no command was popped.
+    NoRoom { pushed: u64, taken: u64 },
+    /// There was no command.
+    NoCommand,
+    /// The request with this number was answered.
+    Answered { nr: u32 },
+    /// The library asks nothing more, and says whether all its work was done.
+    Ended { finished: bool },
+}
+
+impl LibraryDesk {
+    /// Serves a library in a turn: its beat is heard; where it fell silent, its sessions are taken back;
+    /// where its ring has room, one of its commands is popped and answered; and the sessions that it
+    /// has are pumped. Behind the moment `until` a hold lapses. Without memory what was done stays, each
+    /// event whole.
+    pub fn serve(
+        &mut self,
+        alloc: Global,
+        shared: &Shared,
+        library: u8,
+        at: u64,
+        until: u64,
+    ) -> Result<LibTurn, NoMemory>
+        requires linked { IsLinked shared.now self.old }
+        requires library { (1 ≤ library) × (library ≤ length self.old.ends.items) }
+        requires moment { at ≤ LAST_MOMENT }
+        requires ready { IsInOrder self.old }
+        ensures serves { IfOk result (λ turn. Serves library at until self.old self.new turn) }
+        ensures linked { IsLinked shared.now self.new }
+        ensures ready { IsInOrder self.new }
+    {
+        if self.hear(shared, library, at) {
+            self.take_back_all(alloc, shared, library, at, until)?;
+        }
+        let turn = self.answer(shared, library)?;
+        self.pump_all(alloc, shared, library)?;
+        Ok(turn)
+    }
+
+    // Pops a library's next command, where there is room for a notice, and answers it.
+    fn answer(&mut self, shared: &Shared, library: u8) -> Result<LibTurn, NoMemory>
+        requires linked { IsLinked shared.now self.old }
+        requires library { (1 ≤ library) × (library ≤ length self.old.ends.items) }
+        requires ready { IsInOrder self.old }
+        ensures answers { IfOk result (λ turn. Answers library self.old self.new turn) }
+        ensures linked { IsLinked shared.now self.new }
+        ensures ready { IsInOrder self.new }
+    {
+        match self.look(shared, library) {
+            Next::Full { pushed, taken } => Ok(LibTurn::NoRoom { pushed, taken }),
+            Next::Nothing => Ok(LibTurn::NoCommand),
+            Next::Popped(Command::Done { finished }) => Ok(LibTurn::Ended { finished }),
+            Next::Popped(Command::Request { nr, s, from }) => {
+                let notice = self.reply(shared, library, nr, s, from)?;
+                self.tell(shared, library, notice);
+                Ok(LibTurn::Answered { nr })
+            }
+        }
+    }
+
+    // Pops a library's next command, where there is room for a notice.
+    fn look(&mut self, shared: &Shared, library: u8) -> Next
+        requires linked { IsLinked shared.now self.old }
+        requires library { (1 ≤ library) × (library ≤ length self.old.ends.items) }
+        requires ready { IsInOrder self.old }
+        ensures looks { LooksAt library result self.old self.new }
+        ensures room { OnPopped result (HasRoomFor library self.new) }
+        ensures linked { IsLinked shared.now self.new }
+        ensures ready { IsInOrder self.new }
+    {
+        let place = usize::from(library - 1);
+        self.ends[place].next(&shared.commands[place], &shared.notices[place])
+    }
+
+    // Tells a library something, for which its ring has room.
+    fn tell(&mut self, shared: &Shared, library: u8, notice: Notice)
+        requires linked { IsLinked shared.now self.old }
+        requires library { (1 ≤ library) × (library ≤ length self.old.ends.items) }
+        requires ready { IsInOrder self.old }
+        requires room { HasRoomFor library self.old }
+        ensures tells { TellsTo library notice self.old self.new }
+        ensures linked { IsLinked shared.now self.new }
+        ensures ready { IsInOrder self.new }
+    {
+        let place = usize::from(library - 1);
+        self.ends[place].tell(&shared.notices[place], notice);
+    }
+}
