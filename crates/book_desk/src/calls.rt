@@ -49,6 +49,30 @@ pub fn bind(
     Ok(end)
 }
 
+/// The session is bound to a connection that it dialled, and asks for a Logon.
+pub fn dial(
+    alloc: Global,
+    book: &mut SessionBook,
+    out: &mut Outbox,
+    c: u32,
+    at: u64,
+) -> Result<(), NoMemory>
+    requires moment { at ≤ LAST_MOMENT }
+    requires dials { IsSome book.old.book.machine.dials }
+    requires free { (state_of book.old.book.entries).bound ≡ None }
+    requires written { CanBeWritten book.old.book out.old.outgoing }
+    ensures written { CanBeWritten book.new.book out.new.outgoing }
+    ensures stays { (o : Outgoing) → CanBeWritten book.old.book o → CanBeWritten book.new.book o }
+    ensures session { IsSameSession book.old.book book.new.book }
+    ensures bound { OnOk result (IsBoundIn book.new.book) }
+    ensures on { OnOk result (book.new.book.machine.phase ≢ Phase.Off) }
+{
+    what_waits_can_be_written();
+    let _expected = book.expected();
+    book.dial(alloc, c, at, out)?;
+    Ok(())
+}
+
 /// A message on the bound connection.
 pub fn receive(
     alloc: Global,

@@ -6,6 +6,6 @@ mod calls;
 mod words;
 
 pub use calls::{
-    bind, lapse, leave, prepare, receive, request, reserve, show, tick, time_out, write,
+    bind, dial, lapse, leave, prepare, receive, request, reserve, show, tick, time_out, write,
 };
 pub use words::{can_show, put_body};

@@ -1,5 +1,5 @@
 -- What the tests' desk knows of its session and of its connections.
-use Rattle.std.specs.Prelude.{◌≡◌, ◌≢◌, ◌≤◌, ℕ, Bool, true, None, IsSome}
+use Rattle.std.specs.Prelude.{◌≡◌, ◌≢◌, ◌≤◌, ℕ, Bool, false, true, None, IsSome}
 use Rattle.connection_core.specs.Connection.{ConnectionState}
 use Rattle.gate_io.specs.declared.clocks.TheConstants.{LAST_MOMENT}
 use Rattle.lease_core.specs.State.{state_of}
@@ -12,16 +12,18 @@ pub record Stands (book : Book) : Type 0 where
   pub bound : IsSome (state_of book.entries).bound
   pub on : book.machine.phase ≢ Off
 
--- a session that accepts connections, with the last one and the one before that
+-- a session that accepts connections or dials them, with the last one and the one before that
 pub record Shop : Type 0 where
   pub book : Book
+  pub dials : Bool
   pub connection : ConnectionState
   pub past : ConnectionState
   pub stands : Bool
   pub moment : ℕ
 
 pub record IsShop (s : Shop) : Type 0 where
-  pub accepts : s.book.machine.dials ≡ None
+  pub accepts : s.dials ≡ false → s.book.machine.dials ≡ None
+  pub asks : s.dials ≡ true → IsSome s.book.machine.dials
   pub standing : s.stands ≡ true → Stands s.book
   pub here : CanBeWritten s.book s.connection.out.outgoing
   pub there : CanBeWritten s.book s.past.out.outgoing

@@ -1,11 +1,12 @@
 //! A session's book with the last connection and the one before that, of which each call is made
 //! only where it may be.
-ghost use Rattle.std.specs.Prelude.{◌≡◌, ◌≤◌, ◌<◌, IfOk, IfSome, None, false, length, true};
+ghost use Rattle.std.specs.Prelude.{◌≡◌, ◌≤◌, ◌<◌, IfOk, IfSome, IsSome, None, false, length, true};
 ghost use Rattle.std.specs.List.{All};
 ghost use Rattle.lease_core.specs.State.{state_of};
 ghost use Rattle.resend_plan.specs.Fit.{IsFit};
 ghost use Rattle.session_core.specs.Runs.{binds};
 ghost use Rattle.session_book.specs.Waiting.{CanBeWritten};
+ghost use Rattle.connection_core.specs.Outgoing.{no_outgoing};
 
 use crate::texts::{T, soh};
 use book_desk::can_show;
@@ -13,7 +14,8 @@ use connection_core::{ConnRecord, Connection, OwnedPiece, items_stay_queued};
 use fix_fields::{FieldError, Fields};
 use gate_io::{Bytes, LAST_MOMENT, NoMemory};
 use lease_core::{MOST_LIBRARIES, Reply, Shown, Standing, Word};
-use session_book::SessionBook;
+use seq_gaps::MAX_NUMBER;
+use session_book::{Revival, SessionBook};
 use session_core::{Cause, MOST_SESSIONS, Names, route};
 use std::alloc::Global;
 use std::collections::VecDeque;
@@ -23,11 +25,15 @@ use std::mem;
 /// How long the session waits for an heir, in milliseconds.
 const HOLD: u64 = 2_000;
 
+/// The HeartBtInt of a session that dials, in seconds.
+const HEART: u32 = 30;
+
 /// The session GATE/BUYER with its connections, of which the session is bound to the last where that
 /// stands.
 #[derive(Drop)]
 pub struct Desk {
     book: SessionBook,
+    dials: bool,
     connection: Connection,
     past: Connection,
     stands: bool,
@@ -46,18 +52,40 @@ impl Model for Desk {
 
     ghost coded = { Prim.hlevel (codes, line_code task.the_row.coded) };
 
-    ghost view = { λ d. record { book = d.book.book; connection = d.connection; past = d.past; stands = d.stands; moment = d.moment } };
+    ghost view = { λ d. record { book = d.book.book; dials = d.dials; connection = d.connection; past = d.past; stands = d.stands; moment = d.moment } };
 
-    ghost invariant = { λ d. IsShop (record { book = d.book.book; connection = d.connection; past = d.past; stands = d.stands; moment = d.moment }) };
+    ghost invariant = { λ d. IsShop (record { book = d.book.book; dials = d.dials; connection = d.connection; past = d.past; stands = d.stands; moment = d.moment }) };
 }
 
 impl Desk {
+    /// A session that accepts connections. It can be granted `leases` times.
     pub fn new(alloc: Global, leases: u32) -> Result<Desk, NoMemory> {
-        items_stay_queued();
         let us = Vec::from_slice(alloc, b"GATE")?;
         let them = Vec::from_slice(alloc, b"BUYER")?;
+        let book = SessionBook::new(alloc, us, them, leases)?;
+        Desk::with_book(alloc, book, false)
+    }
+
+    /// A session that dials, and expects this number.
+    pub fn dialling(alloc: Global, leases: u32, expected: u32) -> Result<Desk, NoMemory>
+        requires from { 1 ≤ expected }
+        requires to { expected ≤ MAX_NUMBER }
+    {
+        let us = Vec::from_slice(alloc, b"GATE")?;
+        let them = Vec::from_slice(alloc, b"BUYER")?;
+        let nothing = Revival::new(alloc, leases)?;
+        let book = SessionBook::resume(alloc, nothing, us, them, Some(HEART), expected, 0)?;
+        Desk::with_book(alloc, book, true)
+    }
+
+    fn with_book(alloc: Global, book: SessionBook, dials: bool) -> Result<Desk, NoMemory>
+        requires accepts { dials ≡ false → book.book.machine.dials ≡ None }
+        requires asks { dials ≡ true → IsSome book.book.machine.dials }
+    {
+        items_stay_queued();
         Ok(Desk {
-            book: SessionBook::new(alloc, us, them, leases)?,
+            book,
+            dials,
             connection: Connection::accepted(alloc, 0, T)?,
             past: Connection::accepted(alloc, 0, T)?,
             stands: false,
@@ -83,18 +111,42 @@ impl Desk {
 
     /// The next connection is accepted, if the session is bound to none.
     pub fn connect(&mut self, alloc: Global) -> Result<bool, NoMemory> {
-        items_stay_queued();
         if self.book.bound().is_some() {
             return Ok(false);
         }
-        self.records.reserve(1)?;
         let next = Connection::accepted(alloc, self.count, self.moment)?;
+        self.put(next)?;
+        Ok(true)
+    }
+
+    /// The session dials the next connection, if it is one that dials and is bound to none.
+    pub fn dial(&mut self, alloc: Global) -> Result<bool, NoMemory> {
+        if !self.dials || self.book.bound().is_some() {
+            return Ok(false);
+        }
+        let number = self.count;
+        let next = Connection::dialled(alloc, number, self.moment, 0)?;
+        self.put(next)?;
+        let out = self.connection.outbox();
+        book_desk::dial(alloc, &mut self.book, out, number, self.moment)?;
+        self.stands = true;
+        Ok(true)
+    }
+
+    /// Puts a connection on which nothing waits behind the others.
+    fn put(&mut self, next: Connection) -> Result<(), NoMemory>
+        requires { next.out.outgoing ≡ no_outgoing }
+        ensures book { self.new.book ≡ self.old.book }
+        ensures dials { self.new.dials ≡ self.old.dials }
+    {
+        items_stay_queued();
+        self.records.reserve(1)?;
         let last = mem::replace(&mut self.connection, next);
         let gone = mem::replace(&mut self.past, last);
         self.records.push(gone.into_record())?;
         self.stands = false;
         self.count = self.count.saturating_add(1);
-        Ok(true)
+        Ok(())
     }
 
     /// Bytes come on the last connection, if it stands and has room for them.
@@ -148,14 +200,22 @@ impl Desk {
         ensures held { self.new.connection.held ≡ self.old.connection.held }
     {
         let out = self.connection.outbox();
-        book_desk::receive(alloc, &mut self.book, out, body, self.moment)
+        let end = book_desk::receive(alloc, &mut self.book, out, body, self.moment)?;
+        // Of a dialled connection it is the answer, unless another cause than a low number ends that.
+        if matches!(end, None | Some(Cause::LowNumber { .. })) {
+            self.connection.answer();
+        }
+        Ok(end)
     }
 
-    /// The first good piece of a connection binds it to the session, or ends it.
+    /// The first good piece of a connection that was accepted binds it to the session, or ends it.
     fn first(&mut self, alloc: Global, body: Vec<u8>) -> Result<Option<Cause>, NoMemory>
         requires { self.old.stands ≡ false }
         ensures held { self.new.connection.held ≡ self.old.connection.held }
     {
+        if self.dials {
+            return Ok(Some(Cause::NoSuchSession));
+        }
         let names = names(alloc)?;
         let why = why_refused(alloc, body.as_slice(), names.as_slice())?;
         if why.is_some() {
@@ -184,6 +244,7 @@ impl Desk {
         names: Vec<Names>,
     ) -> Result<Option<Cause>, NoMemory>
         requires unbound { (state_of self.old.book.entries).bound ≡ None }
+        requires accepts { self.old.dials ≡ false }
         requires routed { binds names.items body.items ≡ true }
         requires before { self.old.stands ≡ false }
         ensures held { self.new.connection.held ≡ self.old.connection.held }

@@ -5,6 +5,8 @@
 #[cfg(test)]
 mod desk;
 #[cfg(test)]
+mod dial_rows;
+#[cfg(test)]
 mod draw;
 #[cfg(test)]
 mod draw_text;

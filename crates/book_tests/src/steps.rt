@@ -1,6 +1,6 @@
 //! What happens to a session as data, and what is asked of it in between.
 
-ghost use Rattle.std.specs.Prelude.{IfOk};
+ghost use Rattle.std.specs.Prelude.{◌≤◌, IfOk};
 ghost use Rattle.std.specs.List.{All};
 ghost use Rattle.resend_plan.specs.Fit.{IsFit};
 
@@ -9,6 +9,7 @@ use crate::texts::{T, frame, is_text, soh};
 use book_desk::put_body;
 use gate_io::{Bytes, NoMemory};
 use lease_core::{Entry, Reply, Shown, Word};
+use seq_gaps::MAX_NUMBER;
 use session_core::Cause;
 use std::alloc::Global;
 use std::collections::VecDeque;
@@ -21,6 +22,8 @@ pub enum Step {
     /// The clock stands at so many milliseconds past the morning's beginning.
     At(u64),
     Connect,
+    /// The session dials the next connection.
+    Dial,
     /// The frame of this body comes on the last connection; these bytes.
     Frame(&'static str),
     Raw(&'static str),
@@ -78,6 +81,7 @@ impl Player {
         match step {
             Step::At(past) => desk.set(past),
             Step::Connect => return desk.connect(alloc),
+            Step::Dial => return desk.dial(alloc),
             Step::Frame(text) => {
                 let body = soh(alloc, text)?;
                 return desk.take(alloc, frame(alloc, body.as_slice())?.as_slice());
@@ -164,12 +168,27 @@ impl Player {
     }
 }
 
-/// Makes the steps in order on a session that can be granted twice. Each has to come to what it says.
+/// Makes the steps in order on a session that accepts connections and can be granted twice. Each has
+/// to come to what it says.
 pub fn follow(rt: &impl Abort, alloc: Global, steps: &[Step]) -> Result<(), Fail> {
-    let mut player = Player {
-        desk: Desk::new(alloc, 2)?,
-        told: 0,
-    };
+    play(rt, alloc, Desk::new(alloc, 2)?, steps)
+}
+
+/// The same on a session that dials, and expects this number.
+pub fn follow_dialling(
+    rt: &impl Abort,
+    alloc: Global,
+    expected: u32,
+    steps: &[Step],
+) -> Result<(), Fail>
+    requires from { 1 ≤ expected }
+    requires to { expected ≤ MAX_NUMBER }
+{
+    play(rt, alloc, Desk::dialling(alloc, 2, expected)?, steps)
+}
+
+fn play(rt: &impl Abort, alloc: Global, desk: Desk, steps: &[Step]) -> Result<(), Fail> {
+    let mut player = Player { desk, told: 0 };
     for step in steps {
         let is_right = player.happen(alloc, *step)?;
         assert!(rt; is_right, "{step:?}");
