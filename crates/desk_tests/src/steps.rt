@@ -1,0 +1,389 @@
+//! What counterparties, the engine and libraries do, as data, with what each comes to.
+
+ghost use Rattle.std.specs.Prelude.{◌≡◌, ◌<◌, ◌≤◌, OnOk};
+ghost use Rattle.desk_tests.specs.Outset.{AreEnds, IsOpen};
+ghost use Rattle.library_desk.specs.Serving.{IsLinked, IsInOrder};
+
+use crate::application::{Application, Seen};
+use crate::counterparty::Visit;
+use crate::engine;
+use crate::facts::{Fact, entries_behind, is_so};
+use crate::making::{HOLD, Sides, make};
+use crate::texts::{T, order, soh};
+use gate_io::{LAST_MOMENT, NoMemory};
+use lease_core::{Entry, Reply};
+use lease_desk::LeaseDesk;
+use lease_words::Sent;
+use library_api::{LibraryEnds2, Links, Released};
+use library_desk::{LibTurn, LibraryDesk, Shared};
+use session_core::Cause;
+use std::alloc::Global;
+use std::process::Abort;
+use std::test::Fail;
+
+/// Something happens, and comes to what is said.
+#[derive(Clone, Copy, Debug)]
+pub enum Step {
+    /// The clock stands at so many milliseconds past the morning's beginning.
+    At(u64),
+    // On connections, which are named by their places.
+    Connect,
+    /// A body comes.
+    Hears(usize, &'static str),
+    /// The orders from one number to another come for session 0 or 1.
+    Orders(usize, u16, u64, u64),
+    Ends(usize, Cause),
+    // Of the engine.
+    Gathers(u16),
+    TakesBack(u16),
+    Publishes(u16),
+    Serves(u8, LibTurn),
+    // Of a library.
+    /// It requests a session from a position on, by this number.
+    Requests(u8, u16, u64, u32),
+    Polls(u8, Seen),
+    /// It polls the session's messages by this lease, from one position to before another. The order
+    /// with number 2 has position 0.
+    Reads(u8, u16, u32, u64, u64),
+    /// It sends by this lease, the so-many-th time.
+    Sends(u8, u16, &'static str, u32, u32),
+    /// It gives a session back to an heir or, where that is 0, to nobody, by this lease and behind so
+    /// many sends.
+    GivesBack(u8, u16, u8, u32, u32),
+    /// It can't send, since its lease has ended.
+    IsRefused(u8, u16, &'static str),
+    Beats(u8),
+    IsDone(u8, bool),
+    /// These entries came to the session's journal since the last of these steps.
+    Tells(usize, &'static [Entry]),
+    Is(Fact),
+}
+
+/// The two libraries, the clock, and how many entries of each session were told.
+#[derive(Drop)]
+pub struct Morning<'a> {
+    first: Application<'a>,
+    second: Application<'a>,
+    past: u64,
+    told: [usize; 2],
+}
+
+// The moment that is so many milliseconds past the morning's beginning.
+fn moment(past: u64) -> u64
+    ensures { result ≤ LAST_MOMENT }
+{
+    T.saturating_add(past).min(LAST_MOMENT)
+}
+
+impl<'a> Morning<'a> {
+    pub fn new(first: Application<'a>, second: Application<'a>) -> Morning<'a> {
+        Morning {
+            first,
+            second,
+            past: 0,
+            told: [0; 2],
+        }
+    }
+
+    fn library(&mut self, library: u8) -> Option<&mut Application<'a>> {
+        match library {
+            1 => Some(&mut self.first),
+            2 => Some(&mut self.second),
+            _ => None,
+        }
+    }
+
+    /// Whether these entries came since the last call.
+    fn tells(&mut self, desk: &LibraryDesk, s: usize, wanted: &[Entry]) -> bool {
+        if s >= 2 {
+            return false;
+        }
+        let Some(news) = entries_behind(desk, s, self.told[s]) else {
+            return false;
+        };
+        self.told[s] = self.told[s].saturating_add(news.len());
+        news == wanted
+    }
+}
+
+// What a library does.
+fn asks(alloc: Global, library: &mut Application<'_>, step: Step) -> Result<bool, NoMemory> {
+    Ok(match step {
+        Step::Requests(_, s, from, nr) => library.request(s, from) == Some(nr),
+        Step::Polls(_, seen) => library.poll() == seen,
+        Step::Reads(_, s, lease, first, end) => {
+            return reads(alloc, library, s, lease, first, end);
+        }
+        Step::Sends(_, s, text, lease, ordinal) => {
+            library.send(s, soh(alloc, text)?) == Some(Sent { lease, ordinal })
+        }
+        Step::IsRefused(_, s, text) => library.send(s, soh(alloc, text)?).is_none(),
+        Step::GivesBack(_, s, heir, lease, count) => {
+            library.give_back(s, heir) == Some(Released { lease, count })
+        }
+        Step::Beats(_) => {
+            library.beat();
+            true
+        }
+        Step::IsDone(_, finished) => library.done(finished),
+        _ => false,
+    })
+}
+
+// Whether a library polls the orders of these positions, each once and in order.
+fn reads(
+    alloc: Global,
+    library: &mut Application<'_>,
+    s: u16,
+    lease: u32,
+    first: u64,
+    end: u64,
+) -> Result<bool, NoMemory> {
+    for pos in first..end {
+        let wanted = order(alloc, s, pos.saturating_add(2))?;
+        if library.poll() != (Seen::Message { s, lease, pos })
+            || library.bytes() != wanted.as_slice()
+        {
+            return Ok(false);
+        }
+    }
+    Ok(true)
+}
+
+// The orders of these numbers come.
+fn orders(
+    alloc: Global,
+    shared: &Shared,
+    desk: &mut LibraryDesk,
+    k: usize,
+    s: u16,
+    first: u64,
+    last: u64,
+    at: u64,
+) -> Result<bool, NoMemory>
+    requires linked { IsLinked shared.now desk.old }
+    requires ready { IsInOrder desk.old }
+    requires moment { at ≤ LAST_MOMENT }
+    ensures linked { OnOk result (IsLinked shared.now desk.new) }
+    ensures ready { OnOk result (IsInOrder desk.new) }
+{
+    for number in first..last.saturating_add(1) {
+        let body = order(alloc, s, number)?;
+        if !engine::visit(alloc, shared, desk, Visit::Body(k, body), at)? {
+            return Ok(false);
+        }
+    }
+    Ok(true)
+}
+
+// What comes on connections.
+fn comes(
+    alloc: Global,
+    shared: &Shared,
+    desk: &mut LibraryDesk,
+    past: u64,
+    step: Step,
+) -> Result<bool, NoMemory>
+    requires linked { IsLinked shared.now desk.old }
+    requires ready { IsInOrder desk.old }
+    ensures linked { OnOk result (IsLinked shared.now desk.new) }
+    ensures ready { OnOk result (IsInOrder desk.new) }
+{
+    let at = moment(past);
+    match step {
+        Step::Orders(k, s, first, last) => orders(alloc, shared, desk, k, s, first, last, at),
+        Step::Connect => engine::visit(alloc, shared, desk, Visit::Connect, at),
+        Step::Hears(k, text) => {
+            let body = soh(alloc, text)?;
+            engine::visit(alloc, shared, desk, Visit::Body(k, body), at)
+        }
+        Step::Ends(k, cause) => engine::visit(alloc, shared, desk, Visit::End(k, cause), at),
+        _ => Ok(false),
+    }
+}
+
+// What the engine does.
+fn does(
+    alloc: Global,
+    shared: &Shared,
+    desk: &mut LibraryDesk,
+    past: u64,
+    step: Step,
+) -> Result<bool, NoMemory>
+    requires linked { IsLinked shared.now desk.old }
+    requires ready { IsInOrder desk.old }
+    ensures linked { OnOk result (IsLinked shared.now desk.new) }
+    ensures ready { OnOk result (IsInOrder desk.new) }
+{
+    let at = moment(past);
+    let until = at.saturating_add(HOLD);
+    match step {
+        Step::Gathers(s) => engine::gather(alloc, shared, desk, s, at, until),
+        Step::TakesBack(s) => engine::take_back(alloc, shared, desk, s, at, until),
+        Step::Publishes(s) => Ok(engine::publish(shared, desk, s)),
+        Step::Serves(library, turn) => {
+            Ok(engine::serve(alloc, shared, desk, library, at, until)? == Some(turn))
+        }
+        _ => Ok(false),
+    }
+}
+
+// The library whose step it is.
+fn library_of(step: Step) -> u8 {
+    match step {
+        Step::Requests(library, ..)
+        | Step::Polls(library, _)
+        | Step::Reads(library, ..)
+        | Step::Sends(library, ..)
+        | Step::IsRefused(library, ..)
+        | Step::GivesBack(library, ..)
+        | Step::Beats(library)
+        | Step::IsDone(library, _) => library,
+        _ => 0,
+    }
+}
+
+// Makes a step, and says whether it came to what it says.
+fn play(
+    alloc: Global,
+    shared: &Shared,
+    desk: &mut LibraryDesk,
+    morning: &mut Morning<'_>,
+    step: Step,
+) -> Result<bool, NoMemory>
+    requires linked { IsLinked shared.now desk.old }
+    requires ready { IsInOrder desk.old }
+    ensures linked { OnOk result (IsLinked shared.now desk.new) }
+    ensures ready { OnOk result (IsInOrder desk.new) }
+{
+    match step {
+        Step::At(past) => {
+            morning.past = past;
+            Ok(true)
+        }
+        Step::Tells(s, entries) => Ok(morning.tells(desk, s, entries)),
+        Step::Is(fact) => is_so(alloc, desk, fact),
+        Step::Connect | Step::Hears(..) | Step::Orders(..) | Step::Ends(..) => {
+            comes(alloc, shared, desk, morning.past, step)
+        }
+        Step::Gathers(_) | Step::TakesBack(_) | Step::Publishes(_) | Step::Serves(..) => {
+            does(alloc, shared, desk, morning.past, step)
+        }
+        _ => match morning.library(library_of(step)) {
+            Some(library) => asks(alloc, library, step),
+            None => Ok(false),
+        },
+    }
+}
+
+// Makes the steps in order.
+fn follow_on(
+    rt: &impl Abort,
+    alloc: Global,
+    shared: &Shared,
+    desk: &mut LibraryDesk,
+    morning: &mut Morning<'_>,
+    steps: &[Step],
+) -> Result<(), NoMemory>
+    requires linked { IsLinked shared.now desk.old }
+    requires ready { IsInOrder desk.old }
+    ensures linked { OnOk result (IsLinked shared.now desk.new) }
+    ensures ready { OnOk result (IsInOrder desk.new) }
+{
+    for step in steps {
+        let is_right = play(alloc, shared, desk, morning, *step)?;
+        assert!(rt; is_right, "{step:?}");
+    }
+    Ok(())
+}
+
+// The libraries' side of the table and of the rings.
+fn libraries<'a>(
+    alloc: Global,
+    shared: &'a Shared,
+    first: LibraryEnds2,
+    second: LibraryEnds2,
+) -> Morning<'a>
+    requires first { AreEnds shared.now 0 first }
+    requires second { AreEnds shared.now 1 second }
+{
+    let first_links = Links {
+        leases: &shared.leases,
+        commands: &shared.commands[0],
+        notices: &shared.notices[0],
+    };
+    let second_links = Links {
+        leases: &shared.leases,
+        commands: &shared.commands[1],
+        notices: &shared.notices[1],
+    };
+    Morning::new(
+        Application::new(alloc, first_links, first),
+        Application::new(alloc, second_links, second),
+    )
+}
+
+/// Makes the steps in order from the outset. Each has to come to what it says. The rings of notices have
+/// room for as many.
+pub fn follow_with(rt: &impl Abort, alloc: Global, notices: u64, steps: &[Step]) -> Result<(), Fail>
+    requires { (0 < notices) × (notices ≤ 256) }
+{
+    let (shared, sides) = make(alloc, notices)?;
+    let Sides {
+        mut desk,
+        first,
+        second,
+    } = sides;
+    let mut morning = libraries(alloc, &shared, first, second);
+    follow_on(rt, alloc, &shared, &mut desk, &mut morning, steps)?;
+    Ok(())
+}
+
+/// So with room for 256 notices.
+pub fn follow(rt: &impl Abort, alloc: Global, steps: &[Step]) -> Result<(), Fail> {
+    follow_with(rt, alloc, 256, steps)
+}
+
+/// A library's request, by its number, for a session from a position on.
+#[derive(Clone, Copy, Debug)]
+pub struct Ask {
+    pub library: u8,
+    pub nr: u32,
+    pub s: u16,
+    pub from: u64,
+}
+
+// Makes the requests in order, past the rings.
+fn ask_on(
+    rt: &impl Abort,
+    shared: &Shared,
+    desk: &mut LeaseDesk,
+    asks: &[(Ask, Reply)],
+) -> Result<(), NoMemory>
+    requires open { IsOpen shared.now desk.old }
+{
+    for row in asks {
+        let reply = engine::ask(shared, desk, row.0)?;
+        assert_eq!(rt; reply, Some(row.1), "{row:?}");
+    }
+    Ok(())
+}
+
+/// Makes the steps as `follow` does, and then the requests, which are answered so.
+pub fn ask_behind(
+    rt: &impl Abort,
+    alloc: Global,
+    steps: &[Step],
+    asks: &[(Ask, Reply)],
+) -> Result<(), Fail> {
+    let (shared, sides) = make(alloc, 256)?;
+    let Sides {
+        mut desk,
+        first,
+        second,
+    } = sides;
+    let mut morning = libraries(alloc, &shared, first, second);
+    follow_on(rt, alloc, &shared, &mut desk, &mut morning, steps)?;
+    ask_on(rt, &shared, &mut desk.desk, asks)?;
+    Ok(())
+}

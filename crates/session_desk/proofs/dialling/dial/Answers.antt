@@ -1,0 +1,10 @@
+use Rattle.std.proofs.Common.{refl, ◌∙◌}
+use Rattle.session_desk.proofs.dialling.dial.Goals as goal
+
+pub returns-clause-dials : goal.returns-clause-dials
+returns-clause-dials c = record {
+  gathered = c.gather.new.desk;
+  gathers = c.in_ok-gather.ensures.gathers;
+  dials = c.in_ok-k.ensures.happens;
+  seat = c.bind_next.ensures.seat;
+}

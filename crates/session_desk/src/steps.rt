@@ -1,0 +1,71 @@
+//! What the steps of a session are made of.
+
+ghost use Rattle.std.specs.Prelude.{◌≡◌, ◌<◌, ◌≤◌, length, Some, OnOk};
+ghost use Rattle.lease_desk.specs.Desk.{AllAgree, Gathers};
+ghost use Rattle.session_book.specs.Book.{IsSameSession};
+ghost use Rattle.session_desk.specs.Steps.{HaveSameNumbers, IsSteady};
+ghost use Rattle.switchboard.specs.Board.{book_at, place_at};
+ghost use Rattle.switchboard.specs.Happenings.{Happens, ends_bound};
+
+use gate_io::{LAST_MOMENT, NoMemory};
+use lease_desk::LeaseDesk;
+use lease_desk::laws::{agreement_stays, boards_stay_in_step, others_stay};
+use lease_words::{LANE_SLOTS, Leases};
+use session_core::Cause;
+use std::alloc::Global;
+use switchboard::laws::{boards_stay_ready, ready_boards_allow};
+
+/// Gathers what a session's library did.
+pub(crate) fn gather(
+    alloc: Global,
+    desk: &mut LeaseDesk,
+    leases: &Leases,
+    s: u16,
+    at: u64,
+    until: u64,
+) -> Result<(), NoMemory>
+    requires table { desk.old.seat.table ≡ leases.now }
+    requires depth { leases.now.shape.depth ≤ LANE_SLOTS }
+    requires moment { at ≤ LAST_MOMENT }
+    requires session { s < length desk.old.board.sessions }
+    requires seated { s < leases.now.shape.sessions }
+    requires steady { IsSteady desk.old.board desk.old.seat }
+    ensures gathers { OnOk result (Gathers s at until desk.old desk.new) }
+    ensures steady { IsSteady desk.new.board desk.new.seat }
+    ensures places { desk.new.board.places ≡ desk.old.board.places }
+    ensures connections { OnOk result (HaveSameNumbers desk.old.board desk.new.board) }
+    ensures same { OnOk result (IsSameSession (book_at desk.old.board s) (book_at desk.new.board s)) }
+    ensures sessions { length desk.new.board.sessions ≡ length desk.old.board.sessions }
+    ensures table { desk.new.seat.table ≡ desk.old.seat.table }
+{
+    boards_stay_ready();
+    ready_boards_allow();
+    desk.gather(alloc, leases, s, at, until)?;
+    Ok(())
+}
+
+/// The connection of a session ends by a cause.
+pub(crate) fn end(
+    desk: &mut LeaseDesk,
+    s: u16,
+    k: usize,
+    cause: Cause,
+) -> Result<(), NoMemory>
+    requires session { s < length desk.old.board.sessions }
+    requires placed { place_at desk.old.board s ≡ Some k }
+    requires steady { IsSteady desk.old.board desk.old.seat }
+    ensures happens { OnOk result (Happens (ends_bound s k cause) desk.old.board desk.new.board) }
+    ensures steady { OnOk result (IsSteady desk.new.board desk.new.seat) }
+    ensures agree { AllAgree desk.new.board desk.new.seat }
+    ensures sessions { length desk.new.board.sessions ≡ length desk.old.board.sessions }
+    ensures seat { desk.new.seat ≡ desk.old.seat }
+{
+    boards_stay_ready();
+    boards_stay_in_step();
+    ready_boards_allow();
+    agreement_stays();
+    others_stay();
+    desk.board.end_bound(s as usize, k, cause)?;
+    Ok(())
+}
+
