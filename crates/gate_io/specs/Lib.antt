@@ -7,5 +7,6 @@ pub mod MemSource
 pub mod MemSink
 pub mod Clock
 pub mod StepClock
+pub mod Printed
 pub mod RealClock
 pub mod MemWire

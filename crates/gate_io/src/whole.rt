@@ -1,5 +1,6 @@
-ghost use Rattle.std.specs.Prelude.{◌≡◌, ◌≤◌, [], Some, IfOk, IfSome, OnOk, OnErr, IsErrOf, vec_len};
+ghost use Rattle.std.specs.Prelude.{◌≡◌, ◌≤◌, [], Some, IfOk, IfSome, OnOk, OnErr, IsErrOf, codes, vec_len};
 ghost use Rattle.gate_io.specs.Counts.{HasRisen};
+ghost use Rattle.gate_io.specs.Printed.{text_of};
 ghost use Rattle.gate_io.specs.Source.{GaveMoreThan, GaveWithin, IsAllOf, IsLongerThan};
 ghost use Rattle.gate_io.specs.Sink.{HasTaken, HasTakenPrefix};
 ghost use Rattle.gate_io.specs.declared.whole.ReadAll.TheVariants.{OutOfMemory};
@@ -24,6 +25,8 @@ pub enum ReadAll {
 }
 
 impl fmt::Display for ReadAll {
+    ghost output = { λ e. Some (text_of e) };
+
     fn fmt<W: fmt::Write>(&self, f: &mut fmt::Formatter<W>) -> fmt::Result {
         match self {
             ReadAll::OutOfMemory => write!(f, "out of memory"),
@@ -48,6 +51,8 @@ impl From<AllocError> for ReadAll {
 pub struct WriteFault;
 
 impl fmt::Display for WriteFault {
+    ghost output = { λ _. Some (codes "a write failed") };
+
     fn fmt<W: fmt::Write>(&self, f: &mut fmt::Formatter<W>) -> fmt::Result {
         write!(f, "a write failed")
     }
