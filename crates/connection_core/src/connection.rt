@@ -1,6 +1,6 @@
 //! One connection as the engine keeps it.
 
-ghost use Rattle.std.specs.Prelude.{◌≡◌, ◌+◌, ◌<◌, ◌≤◌, ◌↔◌, ◌⊎◌, ◌∷◌, [], ◌++◌, List, Some, length, option_map, is_some, true, false, All, IfOk, OnOk, OnErr, IfNone, IfSome, IsNone, IsTrue, MatchOption};
+ghost use Rattle.std.specs.Prelude.{◌≡◌, ◌+◌, ◌<◌, ◌≤◌, ◌↔◌, ◌⊎◌, ◌∷◌, [], ◌++◌, List, Some, length, option_map, is_some, take, true, false, All, IfOk, OnOk, OnErr, IfNone, IfSome, IsNone, IsTrue, MatchOption};
 ghost use Rattle.std.specs.Borrow.{Lends, sem};
 ghost use Rattle.fix_frame.specs.Cut.{CutPiece, IsPiece, cut, piece_at};
 ghost use Rattle.resend_plan.specs.declared.item.WireItem.{WireItem};
@@ -219,6 +219,13 @@ impl Connection {
         ensures out { result.now ≡ self.old.out }
     {
         &mut self.out
+    }
+
+    /// The next bytes that are to be written, at most `limit`, of those whose text is made.
+    pub fn waiting(&self, limit: usize) -> &[u8]
+        ensures { result.now ≡ take limit (waiting_text self.now.out.outgoing) }
+    {
+        self.out.waiting(limit)
     }
 
     /// How many items aren't written whole.
