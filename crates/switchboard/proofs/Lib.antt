@@ -7,3 +7,4 @@ pub mod Readies
 pub mod RunLaws
 pub mod Telling
 pub mod Bringing
+pub mod Going

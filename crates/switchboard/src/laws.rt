@@ -13,13 +13,16 @@ ghost use Rattle.session_book.specs.Acts.{IsBoundIn};
 ghost use Rattle.session_book.specs.Kept.{Kept};
 ghost use Rattle.switchboard.specs.Board.{Board, DeskChanges, PlugChanges, book_at, connection_at, place_at, session_at, with_connection, with_connections, with_session, with_session_more};
 ghost use Rattle.switchboard.specs.Brought.{Brought, IsBrought, TakeWhatIsInHand, TakesWhatIsInHand, brought_after, brought_over, nothing_brought};
+ghost use Rattle.switchboard.specs.Going.{GoesOnTo};
 ghost use Rattle.switchboard.specs.Happenings.{BindsTo, Happening, Happens, Reaches, binds_and_ends, ends_bound};
 ghost use Rattle.switchboard.specs.Ready.{IsFirst, IsReady, entries_of};
 ghost use Rattle.switchboard.specs.Sound.{IsLawful, IsPlugged, IsSameLine, IsSound, bound_of};
 ghost use Rattle.switchboard.specs.Told.{ComeInOrder, History, IsTold, history_after, history_over, machines_of, moment_after, moment_over, no_history};
 
 use connection_core::items_stay_queued;
-use session_book::laws::{beats_come_in_time, sends_are_told, texts_are_told, texts_stay};
+use session_book::laws::{
+    beats_come_in_time, sends_are_told, sessions_go_on, texts_are_told, texts_stay,
+};
 
 /// Sessions and connections stay sound: each session is bound to a connection just where it has a
 /// place, and that stands and names it.
@@ -71,6 +74,19 @@ pub fn boards_stay_ready()
     texts_stay();
     sends_are_told();
     items_stay_queued();
+}
+
+/// Whatever happens, one call or many, sessions and connections go on: no journal, log or record of
+/// what came loses anything, and a connection stays bound to its session and keeps the cause of its
+/// end.
+pub fn boards_go_on()
+    ensures happening { (happening : Happening) (old new : Board) → Happens happening old new → GoesOnTo old new }
+    ensures run { (happenings : List Happening) (old new : Board) → Reaches happenings old new → GoesOnTo old new }
+    // Nothing happened, and one run behind another.
+    ensures itself { (board : Board) → GoesOnTo board board }
+    ensures further { (first second third : Board) → GoesOnTo first second → GoesOnTo second third → GoesOnTo first third }
+{
+    sessions_go_on();
 }
 
 /// What each session's journal tells of its connections, of the time and of its libraries' sends is

@@ -1,0 +1,25 @@
+-- How sessions and connections go on.
+use Rattle.std.specs.Prelude.{◌≡◌, ℕ, ◌<◌, ◌≤◌, length, List, ◌++◌, Some}
+use Rattle.connection_core.specs.Connection.{ConnectionState}
+use Rattle.session_core.specs.declared.causes.Cause.{Cause}
+use Rattle.session_book.specs.Book.{IsSameSession}
+use Rattle.session_book.specs.Rereading.{WentOn}
+use Rattle.switchboard.specs.Board.{Board, book_at, connection_at}
+
+-- the same connection: what came of it stays, it stays bound to its session, and it ends at most once
+pub record IsSameConnection (old new : ConnectionState) : Type 0 where
+  pub number : new.number ≡ old.number
+  pub since : new.since ≡ old.since
+  pub dialled : new.dialled ≡ old.dialled
+  pub more : List ℕ
+  pub taken : new.taken ≡ old.taken ++ more
+  pub bound : (s : ℕ) → old.session ≡ Some s → new.session ≡ Some s
+  pub ended : (cause : Cause) → old.cause ≡ Some cause → new.cause ≡ Some cause
+
+-- Each session and each connection goes on: no session comes or goes, and connections come behind those that there are.
+pub record GoesOnTo (old new : Board) : Type 0 where
+  pub sessions : length new.sessions ≡ length old.sessions
+  pub same : (s : ℕ) → IsSameSession (book_at old s) (book_at new s)
+  pub books : (s : ℕ) → WentOn (book_at old s) (book_at new s)
+  pub more : length old.connections ≤ length new.connections
+  pub each : (k : ℕ) → k < length old.connections → IsSameConnection (connection_at old k) (connection_at new k)
