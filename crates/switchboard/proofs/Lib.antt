@@ -8,3 +8,4 @@ pub mod RunLaws
 pub mod Telling
 pub mod Bringing
 pub mod Going
+pub mod Written

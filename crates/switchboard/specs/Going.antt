@@ -1,10 +1,12 @@
 -- How sessions and connections go on.
-use Rattle.std.specs.Prelude.{◌≡◌, ℕ, ◌<◌, ◌≤◌, length, List, ◌++◌, Some}
+use Rattle.std.specs.Prelude.{◌≡◌, ℕ, ◌<◌, ◌≤◌, length, Bool, true, false, List, ◌++◌, Some}
 use Rattle.connection_core.specs.Connection.{ConnectionState}
+use Rattle.connection_core.specs.Outgoing.{written_text}
 use Rattle.session_core.specs.declared.causes.Cause.{Cause}
 use Rattle.session_book.specs.Book.{IsSameSession}
 use Rattle.session_book.specs.Rereading.{WentOn}
 use Rattle.switchboard.specs.Board.{Board, book_at, connection_at}
+use Rattle.switchboard.specs.Happenings.{Happening, writes}
 
 -- the same connection: what came of it stays, it stays bound to its session, and it ends at most once
 pub record IsSameConnection (old new : ConnectionState) : Type 0 where
@@ -23,3 +25,12 @@ pub record GoesOnTo (old new : Board) : Type 0 where
   pub books : (s : ℕ) → WentOn (book_at old s) (book_at new s)
   pub more : length old.connections ≤ length new.connections
   pub each : (k : ℕ) → k < length old.connections → IsSameConnection (connection_at old k) (connection_at new k)
+
+-- as many bytes of a connection are written as before, and the same
+abbrev pub IsWrittenAsBefore : ConnectionState → ConnectionState → Type 0
+IsWrittenAsBefore old new = written_text new.out.outgoing ≡ written_text old.out.outgoing
+
+-- bytes of a connection are written
+abbrev pub is_writing : Happening → Bool
+is_writing (writes k n) = true
+is_writing _ = false

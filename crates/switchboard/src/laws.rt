@@ -1,6 +1,6 @@
 //! Laws of the definitions. Each is the contract of a function that does nothing.
 
-ghost use Rattle.std.specs.Prelude.{◌≡◌, ◌≢◌, ℕ, ◌<◌, ◌≤◌, List, [], ◌∷◌, ◌++◌, length, slice_set, Option, None, Some, IfSome};
+ghost use Rattle.std.specs.Prelude.{◌≡◌, ◌≢◌, ℕ, ◌<◌, ◌≤◌, false, List, [], ◌∷◌, ◌++◌, length, slice_set, Option, None, Some, IfSome};
 ghost use Rattle.std.specs.List.{All};
 ghost use Rattle.connection_core.specs.Connection.{ConnectionState};
 ghost use Rattle.lease_core.specs.declared.entry.Entry.{Entry};
@@ -13,7 +13,7 @@ ghost use Rattle.session_book.specs.Acts.{IsBoundIn};
 ghost use Rattle.session_book.specs.Kept.{Kept};
 ghost use Rattle.switchboard.specs.Board.{Board, DeskChanges, PlugChanges, book_at, connection_at, place_at, session_at, with_connection, with_connections, with_session, with_session_more};
 ghost use Rattle.switchboard.specs.Brought.{Brought, IsBrought, TakeWhatIsInHand, TakesWhatIsInHand, brought_after, brought_over, nothing_brought};
-ghost use Rattle.switchboard.specs.Going.{GoesOnTo};
+ghost use Rattle.switchboard.specs.Going.{GoesOnTo, IsWrittenAsBefore, is_writing};
 ghost use Rattle.switchboard.specs.Happenings.{BindsTo, Happening, Happens, Reaches, binds_and_ends, ends_bound};
 ghost use Rattle.switchboard.specs.Ready.{IsFirst, IsReady, entries_of};
 ghost use Rattle.switchboard.specs.Sound.{IsLawful, IsPlugged, IsSameLine, IsSound, bound_of};
@@ -78,13 +78,16 @@ pub fn boards_stay_ready()
 
 /// Whatever happens, one call or many, sessions and connections go on: no journal, log or record of
 /// what came loses anything, and a connection stays bound to its session and keeps the cause of its
-/// end.
+/// end. On a ready board what is written changes by a write alone.
 pub fn boards_go_on()
     ensures happening { (happening : Happening) (old new : Board) → Happens happening old new → GoesOnTo old new }
     ensures run { (happenings : List Happening) (old new : Board) → Reaches happenings old new → GoesOnTo old new }
     // Nothing happened, and one run behind another.
     ensures itself { (board : Board) → GoesOnTo board board }
     ensures further { (first second third : Board) → GoesOnTo first second → GoesOnTo second third → GoesOnTo first third }
+    // Nothing but a write writes.
+    ensures written { (before : ℕ → List Entry) (happening : Happening) (old new : Board) → is_writing happening ≡ false → Happens happening old new → IsReady before old
+        → (k : ℕ) → k < length old.connections → IsWrittenAsBefore (connection_at old k) (connection_at new k) }
 {
     sessions_go_on();
 }
@@ -129,6 +132,9 @@ pub fn ready_boards_allow()
     // Of a connection that names a session, also once it has ended.
     ensures named { (before : ℕ → List Entry) (board : Board) (s k : ℕ) → IsReady before board → k < length board.connections → (connection_at board k).session ≡ Some s
         → All (NamesEntry (book_at board s).outbound) (connection_at board k).out.outgoing.unmade }
+    // Of a connection that stands and names a session.
+    ensures alone { (before : ℕ → List Entry) (board : Board) (k s : ℕ) → IsReady before board → k < length board.connections → (connection_at board k).session ≡ Some s
+        → (connection_at board k).cause ≡ None → (s < length board.sessions) × (place_at board s ≡ Some k) }
 {
     texts_are_told();
 }

@@ -1,4 +1,5 @@
 use Rattle.switchboard.proofs.Going.{GoingLaws, goes_further, goes_nowhere, happened, ran}
+use Rattle.switchboard.proofs.Written.{written_before}
 use Rattle.switchboard.proofs.laws.boards_go_on.Goals as goal
 
 laws : goal.After-sessions_go_on → GoingLaws
@@ -29,3 +30,6 @@ returns-clause-itself c = goes_nowhere (laws c)
 
 pub returns-clause-further : goal.returns-clause-further
 returns-clause-further c = goes_further (laws c)
+
+pub returns-clause-written : goal.returns-clause-written
+returns-clause-written c = λ before happening old new apart is ready k within. (written_before before happening old new apart is ready).each k within

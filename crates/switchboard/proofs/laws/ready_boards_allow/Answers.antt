@@ -20,3 +20,6 @@ returns-clause-free c = ready_free
 pub returns-clause-named : goal.returns-clause-named
 returns-clause-named c = λ before board s k ready within names.
     c.texts_are_told.ensures.unmade (names_at board s) (before s) (connection_at board k).number (book_at board s) (connection_at board k).out.outgoing (ready.texts s k within names)
+
+pub returns-clause-alone : goal.returns-clause-alone
+returns-clause-alone c = λ before board k s ready within names stands. ready.sound.alone k s within names stands
