@@ -9,3 +9,4 @@ pub mod Telling
 pub mod Bringing
 pub mod Going
 pub mod Written
+pub mod Quiet

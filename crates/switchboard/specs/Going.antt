@@ -6,7 +6,7 @@ use Rattle.session_core.specs.declared.causes.Cause.{Cause}
 use Rattle.session_book.specs.Book.{IsSameSession}
 use Rattle.session_book.specs.Rereading.{WentOn}
 use Rattle.switchboard.specs.Board.{Board, book_at, connection_at}
-use Rattle.switchboard.specs.Happenings.{Happening, writes}
+use Rattle.switchboard.specs.Happenings.{Happening, accepts, dials, gives, takes, writes}
 
 -- the same connection: what came of it stays, it stays bound to its session, and it ends at most once
 pub record IsSameConnection (old new : ConnectionState) : Type 0 where
@@ -34,3 +34,23 @@ IsWrittenAsBefore old new = written_text new.out.outgoing ≡ written_text old.o
 abbrev pub is_writing : Happening → Bool
 is_writing (writes k n) = true
 is_writing _ = false
+
+-- neither do bytes come, nor is a piece handed out, nor are bytes written
+abbrev pub is_quiet : Happening → Bool
+is_quiet (takes k bytes) = false
+is_quiet (gives k) = false
+is_quiet (writes k n) = false
+is_quiet _ = true
+
+-- the bytes of a connection are as they were: those that came, those that are held, and those that were written
+pub record KeepsBytes (old new : ConnectionState) : Type 0 where
+  pub taken : new.taken ≡ old.taken
+  pub held : new.held ≡ old.held
+  pub garbled : new.garbled ≡ old.garbled
+  pub written : IsWrittenAsBefore old new
+
+-- a connection comes
+abbrev pub is_coming : Happening → Bool
+is_coming (accepts number at) = true
+is_coming (dials s number at) = true
+is_coming _ = false

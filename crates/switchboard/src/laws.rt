@@ -1,6 +1,6 @@
 //! Laws of the definitions. Each is the contract of a function that does nothing.
 
-ghost use Rattle.std.specs.Prelude.{◌≡◌, ◌≢◌, ℕ, ◌<◌, ◌≤◌, false, List, [], ◌∷◌, ◌++◌, length, slice_set, Option, None, Some, IfSome};
+ghost use Rattle.std.specs.Prelude.{◌≡◌, ◌≢◌, ℕ, ◌<◌, ◌≤◌, true, false, List, [], ◌∷◌, ◌++◌, length, slice_set, Option, None, Some, IfSome};
 ghost use Rattle.std.specs.List.{All};
 ghost use Rattle.connection_core.specs.Connection.{ConnectionState};
 ghost use Rattle.lease_core.specs.declared.entry.Entry.{Entry};
@@ -13,7 +13,7 @@ ghost use Rattle.session_book.specs.Acts.{IsBoundIn};
 ghost use Rattle.session_book.specs.Kept.{Kept};
 ghost use Rattle.switchboard.specs.Board.{Board, DeskChanges, PlugChanges, book_at, connection_at, place_at, session_at, with_connection, with_connections, with_session, with_session_more};
 ghost use Rattle.switchboard.specs.Brought.{Brought, IsBrought, TakeWhatIsInHand, TakesWhatIsInHand, brought_after, brought_over, nothing_brought};
-ghost use Rattle.switchboard.specs.Going.{GoesOnTo, IsWrittenAsBefore, is_writing};
+ghost use Rattle.switchboard.specs.Going.{GoesOnTo, IsWrittenAsBefore, KeepsBytes, is_coming, is_quiet, is_writing};
 ghost use Rattle.switchboard.specs.Happenings.{BindsTo, Happening, Happens, Reaches, binds_and_ends, ends_bound};
 ghost use Rattle.switchboard.specs.Ready.{IsFirst, IsReady, entries_of};
 ghost use Rattle.switchboard.specs.Sound.{IsLawful, IsPlugged, IsSameLine, IsSound, bound_of};
@@ -88,6 +88,11 @@ pub fn boards_go_on()
     // Nothing but a write writes.
     ensures written { (before : ℕ → List Entry) (happening : Happening) (old new : Board) → is_writing happening ≡ false → Happens happening old new → IsReady before old
         → (k : ℕ) → k < length old.connections → IsWrittenAsBefore (connection_at old k) (connection_at new k) }
+    // Where no bytes come, are cut or written, those of each connection stay.
+    ensures quiet { (before : ℕ → List Entry) (happening : Happening) (old new : Board) → is_quiet happening ≡ true → Happens happening old new → IsReady before old
+        → (k : ℕ) → k < length old.connections → KeepsBytes (connection_at old k) (connection_at new k) }
+    // Where no connection comes there are as many as before.
+    ensures count { (happening : Happening) (old new : Board) → is_coming happening ≡ false → Happens happening old new → length new.connections ≡ length old.connections }
 {
     sessions_go_on();
 }
