@@ -1,3 +1,4 @@
 pub mod Cursors
 pub mod Links
 pub mod Pumped
+pub mod Running

@@ -28,6 +28,7 @@ use Rattle.ring_links.specs.Ends.{HasRoom, IsFull}
 use Rattle.session_book.specs.Acts.{after_request}
 use Rattle.session_core.specs.declared.routing.TheConstants.{MOST_SESSIONS}
 use Rattle.switchboard.specs.Board.{Board, book_at, session_at, with_session}
+use Rattle.switchboard.specs.Happenings.{Happens, requests}
 
 -- the seat belongs to the table, and the ends to the rings, one of each for each library
 pub record IsLinked (shared : Shared) (d : LibraryDesk) : Type 0 where
@@ -115,6 +116,7 @@ pub record Replies (library nr s from : ℕ) (old new : LibraryDesk) (notice : N
   pub reply_is : reply ≡ reply_to (book_at old.desk.board s).leases (state_of (book_at old.desk.board s).entries) library from
   pub book : book_at new.desk.board s ≡ after_request library nr from (book_at old.desk.board s)
   pub others : new.desk.board ≡ with_session s (session_at new.desk.board s) old.desk.board
+  pub happens : Happens (requests s library nr from) old.desk.board new.desk.board
   pub seat : new.desk.seat ≡ seat_after_reply s library reply old.desk.seat
   pub cursors : new.cursors.items ≡ cursors_after s from reply old.cursors.items
   pub notice_is : notice ≡ notice_of nr s from reply
