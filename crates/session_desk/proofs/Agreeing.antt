@@ -71,12 +71,12 @@ pub begun_keeps : ((at : ℕ) (acts : List Act) (start new : Desk) → IsBegun a
     → ((at : ℕ) (acts : List Act) (start new : Desk) → IsBegun at acts start new → WentOn start.book new.book)
     → (at : ℕ) (acts : List Act) (old new : Desk) (machine : State) → (new ≡ old) ⊎ IsBegun at acts (with_outbox (with_machine machine old.book) old.outgoing) new → Keeps old.book new.book
 begun_keeps leases on at acts old new machine begun = elim begun [
-    | inl same ↦ record { lines = ap (λ (d : Desk). lines_of d.book.entries) same; inbound = (let grown : length new.book.inbound ≡ length old.book.inbound = ap (λ (d : Desk). length d.book.inbound) same in omega arith) }
-    | inr some ↦
-        let start = with_outbox (with_machine machine old.book) old.outgoing in
-        let went = on at acts start new some in
-        record { lines = (leases at acts start new some).lines; inbound = longer old.book.inbound went.more new.book.inbound went.inbound }
-  ]
+  | inl same ↦ record { lines = ap (λ (d : Desk). lines_of d.book.entries) same; inbound = (let grown : length new.book.inbound ≡ length old.book.inbound = ap (λ (d : Desk). length d.book.inbound) same in omega arith) }
+  | inr some ↦
+      let start = with_outbox (with_machine machine old.book) old.outgoing in
+      let went = on at acts start new some in
+      record { lines = (leases at acts start new some).lines; inbound = longer old.book.inbound went.more new.book.inbound went.inbound }
+]
 
 -- the book is as it was
 pub same_keeps : (old new : Book) → new ≡ old → Keeps old new
@@ -94,6 +94,13 @@ pub opened_keeps : ((c at : ℕ) (acts : List Act) (machine : State) (desk new :
     → ((c at : ℕ) (acts : List Act) (machine : State) (desk new : Desk) → IsBegun at acts (with_outbox (with_machine machine (with_event (Binds c) desk.book)) desk.outgoing) new → WentOn desk.book new.book)
     → (c at : ℕ) (acts : List Act) (machine : State) (old new : Desk) → (new.book ≡ old.book) ⊎ IsBegun at acts (with_outbox (with_machine machine (with_event (Binds c) old.book)) old.outgoing) new → Keeps old.book new.book
 opened_keeps leases on c at acts machine old new begun = elim begun [
-    | inl same ↦ same_keeps old.book new.book same
-    | inr some ↦ let went = on c at acts machine old new some in record { lines = (leases c at acts machine old new some).lines; inbound = longer old.book.inbound went.more new.book.inbound went.inbound }
-  ]
+  | inl same ↦ same_keeps old.book new.book same
+  | inr some ↦ let went = on c at acts machine old new some in record { lines = (leases c at acts machine old new some).lines; inbound = longer old.book.inbound went.more new.book.inbound went.inbound }
+]
+
+-- the book is what an event makes of it
+pub made_keeps : (old new made : Book) → new ≡ made → HasSameLeases old made → WentOn old made → Keeps old new
+made_keeps old new made is same on = record {
+  lines = ap (λ (b : Book). lines_of b.entries) is ∙ same.lines;
+  inbound = (let grown : length new.inbound ≡ length made.inbound = ap (λ (b : Book). length b.inbound) is in let long = longer old.inbound on.more made.inbound on.inbound in omega arith);
+}

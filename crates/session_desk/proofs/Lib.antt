@@ -1,2 +1,4 @@
 pub mod Agreeing
 pub mod Same
+pub mod Proceeding
+pub mod RoutedTo

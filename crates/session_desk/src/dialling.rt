@@ -2,10 +2,11 @@
 
 ghost use Rattle.std.specs.Prelude.{◌≡◌, ◌<◌, ◌≤◌, length, None, IfOk, IsSome, OnOk};
 ghost use Rattle.lease_desk.specs.Desk.{AllAgree};
-ghost use Rattle.session_desk.specs.Steps.{DialsTo, IsSteady};
+ghost use Rattle.session_desk.specs.Steps.{DialsTo, IsSteady, Proceeds};
 ghost use Rattle.switchboard.specs.Board.{book_at, place_at};
 ghost use Rattle.switchboard.specs.Happenings.{Happens, IsNewNumber, dials};
 
+use crate::laws::sessions_proceed;
 use crate::steps::gather;
 use gate_io::{LAST_MOMENT, NoMemory};
 use lease_desk::LeaseDesk;
@@ -39,10 +40,12 @@ pub fn dial(
     ensures place { IfOk result (λ k. k ≡ length desk.old.board.connections) }
     ensures dials { OnOk result (DialsTo s number at until desk.old desk.new) }
     ensures steady { OnOk result (IsSteady desk.new.board desk.new.seat) }
+    ensures proceeds { OnOk result (Proceeds desk.old.board desk.new.board) }
     ensures agree { AllAgree desk.new.board desk.new.seat }
     ensures table { desk.new.seat.table ≡ desk.old.seat.table }
     ensures sessions { length desk.new.board.sessions ≡ length desk.old.board.sessions }
 {
+    sessions_proceed();
     gather(alloc, desk, leases, s, at, until)?;
     let k = bind_next(alloc, desk, s, number, at)?;
     Ok(k)
@@ -65,6 +68,7 @@ fn bind_next(
     ensures place { IfOk result (λ k. k ≡ length desk.old.board.connections) }
     ensures happens { OnOk result (Happens (dials s number at) desk.old.board desk.new.board) }
     ensures steady { OnOk result (IsSteady desk.new.board desk.new.seat) }
+    ensures proceeds { OnOk result (Proceeds desk.old.board desk.new.board) }
     ensures agree { AllAgree desk.new.board desk.new.seat }
     ensures sessions { length desk.new.board.sessions ≡ length desk.old.board.sessions }
     ensures seat { desk.new.seat ≡ desk.old.seat }
@@ -75,6 +79,7 @@ fn bind_next(
     agreement_stays();
     leases_stay();
     sessions_go_on();
+    sessions_proceed();
     let k = desk.board.dial(alloc, s as usize, number, at)?;
     Ok(k)
 }

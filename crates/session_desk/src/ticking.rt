@@ -4,10 +4,11 @@ ghost use Rattle.std.specs.Prelude.{◌≡◌, ◌<◌, ◌≤◌, ◌∷◌, []
 ghost use Rattle.lease_core.specs.State.{state_of};
 ghost use Rattle.lease_desk.specs.Desk.{AllAgree};
 ghost use Rattle.session_core.specs.Tick.{tick};
-ghost use Rattle.session_desk.specs.Steps.{IsSteady, Ticks, ending, lapsing};
+ghost use Rattle.session_desk.specs.Steps.{IsSteady, Proceeds, Ticks, ending, lapsing};
 ghost use Rattle.switchboard.specs.Board.{book_at, place_at};
 ghost use Rattle.switchboard.specs.Happenings.{Happens, Reaches, ticks};
 
+use crate::laws::sessions_proceed;
 use crate::steps::{end, gather};
 use gate_io::{LAST_MOMENT, NoMemory};
 use lease_desk::LeaseDesk;
@@ -37,10 +38,12 @@ pub fn tick(
     requires steady { IsSteady desk.old.board desk.old.seat }
     ensures ticks { IfOk result (λ end. Ticks s at until desk.old desk.new end) }
     ensures steady { OnOk result (IsSteady desk.new.board desk.new.seat) }
+    ensures proceeds { OnOk result (Proceeds desk.old.board desk.new.board) }
     ensures agree { AllAgree desk.new.board desk.new.seat }
     ensures table { desk.new.seat.table ≡ desk.old.seat.table }
     ensures sessions { length desk.new.board.sessions ≡ length desk.old.board.sessions }
 {
+    sessions_proceed();
     gather(alloc, desk, leases, s, at, until)?;
     lapse(desk, s, at)?;
     let cause = take_tick(alloc, desk, s, at)?;
@@ -54,6 +57,7 @@ fn lapse(desk: &mut LeaseDesk, s: u16, at: u64) -> Result<(), NoMemory>
     requires steady { IsSteady desk.old.board desk.old.seat }
     ensures lapses { OnOk result (Reaches (lapsing s (state_of (book_at desk.old.board s).entries).reserved at) desk.old.board desk.new.board) }
     ensures steady { OnOk result (IsSteady desk.new.board desk.new.seat) }
+    ensures proceeds { OnOk result (Proceeds desk.old.board desk.new.board) }
     ensures agree { AllAgree desk.new.board desk.new.seat }
     ensures places { desk.new.board.places ≡ desk.old.board.places }
     ensures sessions { length desk.new.board.sessions ≡ length desk.old.board.sessions }
@@ -63,6 +67,7 @@ fn lapse(desk: &mut LeaseDesk, s: u16, at: u64) -> Result<(), NoMemory>
     boards_stay_in_step();
     agreement_stays();
     others_stay();
+    sessions_proceed();
     match desk.board.session(s as usize).reserved() {
         Some((_, until)) if until <= at => {
             desk.board.lapse(s as usize)?;
@@ -85,6 +90,7 @@ fn take_tick(
     ensures end { IfOk result (λ end. end ≡ (tick (book_at desk.old.board s).machine at).end) }
     ensures happens { OnOk result (Happens (ticks s at) desk.old.board desk.new.board) }
     ensures steady { OnOk result (IsSteady desk.new.board desk.new.seat) }
+    ensures proceeds { OnOk result (Proceeds desk.old.board desk.new.board) }
     ensures agree { AllAgree desk.new.board desk.new.seat }
     ensures places { desk.new.board.places ≡ desk.old.board.places }
     ensures sessions { length desk.new.board.sessions ≡ length desk.old.board.sessions }
@@ -97,6 +103,7 @@ fn take_tick(
     others_stay();
     leases_stay();
     sessions_go_on();
+    sessions_proceed();
     let end = desk.board.tick(alloc, s as usize, at)?;
     Ok(end)
 }
@@ -107,10 +114,12 @@ fn end_if_bound(desk: &mut LeaseDesk, s: u16, cause: Option<Cause>) -> Result<()
     requires steady { IsSteady desk.old.board desk.old.seat }
     ensures follows { OnOk result (Reaches (ending s (place_at desk.old.board s) cause) desk.old.board desk.new.board) }
     ensures steady { OnOk result (IsSteady desk.new.board desk.new.seat) }
+    ensures proceeds { OnOk result (Proceeds desk.old.board desk.new.board) }
     ensures agree { AllAgree desk.new.board desk.new.seat }
     ensures sessions { length desk.new.board.sessions ≡ length desk.old.board.sessions }
     ensures seat { desk.new.seat ≡ desk.old.seat }
 {
+    sessions_proceed();
     match (desk.board.place(s as usize), cause) {
         (Some(k), Some(cause)) => end(desk, s, k, cause),
         _ => Ok(()),

@@ -33,3 +33,8 @@ returns-in_err-k-clause-agree c =
     (λ j other. ap (λ (xs : List Kept). (get_or xs j no_session).book) c.dial.ensures.sessions ∙ ap (λ (k : Kept). k.book) (get_or-set_other old.sessions s j (session_at new s) no_session other))
     (opened_keeps c.leases_stay.ensures.opened c.sessions_go_on.ensures.opened c.args.number c.args.at _ _ (with_outbox (book_at old s) no_outgoing) (desk_with new s (Some (length old.connections))) c.in_err-k.ensures.begun)
     c.requires.steady.in_step.agree
+
+pub returns-clause-proceeds : goal.returns-clause-proceeds
+returns-clause-proceeds c =
+    let run = c.requires.steady.run in
+    c.sessions_proceed.ensures.happening run.before (dials c.args.s c.args.number c.args.at) c.args.desk.now.board c.dial.new.self refl refl (c.in_ok-k.ensures.happens c.requires.new_number) run.ready

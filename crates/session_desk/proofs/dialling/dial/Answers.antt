@@ -8,3 +8,6 @@ returns-clause-dials c = record {
   dials = c.in_ok-k.ensures.happens;
   seat = c.bind_next.ensures.seat;
 }
+
+pub returns-clause-proceeds : goal.returns-clause-proceeds
+returns-clause-proceeds c = c.sessions_proceed.ensures.further c.args.desk.now.board c.gather.new.desk.board c.bind_next.new.desk.board c.in_ok-gather.ensures.proceeds c.in_ok-k.ensures.proceeds

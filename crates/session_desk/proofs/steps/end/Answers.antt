@@ -25,3 +25,8 @@ returns-clause-steady c =
 
 pub returns-clause-agree : goal.returns-clause-agree
 returns-clause-agree c = (returns-clause-steady c).in_step.agree
+
+pub returns-clause-proceeds : goal.returns-clause-proceeds
+returns-clause-proceeds c =
+    let run = c.requires.steady.run in
+    c.sessions_proceed.ensures.happening run.before (ends_bound c.args.s c.args.k c.args.cause) c.args.desk.now.board c.end_bound.new.self refl refl (c.in_ok-end_bound.ensures.happens c.requires.placed) run.ready

@@ -20,3 +20,8 @@ returns-in_ok-lapse-in-Some-clause-steady c =
 
 pub returns-in_ok-lapse-in-Some-clause-agree : goal.returns-in_ok-lapse-in-Some-clause-agree
 returns-in_ok-lapse-in-Some-clause-agree c = (returns-in_ok-lapse-in-Some-clause-steady c).in_step.agree
+
+pub returns-in_ok-lapse-in-Some-clause-proceeds : goal.returns-in_ok-lapse-in-Some-clause-proceeds
+returns-in_ok-lapse-in-Some-clause-proceeds c =
+    let run = c.requires.steady.run in
+    c.sessions_proceed.ensures.happening run.before (lapses c.args.s) c.args.desk.now.board c.lapse.new.self refl refl (c.in_ok-lapse-in-Some.ensures.happens) run.ready

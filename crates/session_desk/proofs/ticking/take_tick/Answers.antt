@@ -26,3 +26,8 @@ returns-clause-steady c =
 
 pub returns-clause-agree : goal.returns-clause-agree
 returns-clause-agree c = (returns-clause-steady c).in_step.agree
+
+pub returns-clause-proceeds : goal.returns-clause-proceeds
+returns-clause-proceeds c =
+    let run = c.requires.steady.run in
+    c.sessions_proceed.ensures.happening run.before (ticks c.args.s c.args.at) c.args.desk.now.board c.tick.new.self refl refl (c.in_ok-end.ensures.happens) run.ready

@@ -12,7 +12,12 @@ returns-clause-ticks c =
       gathers = c.in_ok-gather.ensures.gathers;
       lapses = c.in_ok-lapse.ensures.lapses;
       end_is = c.in_ok-cause.ensures.end;
-      follows = (c.take_tick.new.desk.board, (c.in_ok-cause.ensures.happens,
-        subst (λ p. Reaches (ending c.args.s p c.in_ok-cause.cause) c.take_tick.new.desk.board c.end_if_bound.new.desk.board) place c.in_ok-end_if_bound.ensures.follows));
+      follows = (
+        c.take_tick.new.desk.board,
+        (
+          c.in_ok-cause.ensures.happens,
+          subst (λ p. Reaches (ending c.args.s p c.in_ok-cause.cause) c.take_tick.new.desk.board c.end_if_bound.new.desk.board) place c.in_ok-end_if_bound.ensures.follows,
+        ),
+      );
       seat = c.end_if_bound.ensures.seat ∙ c.take_tick.ensures.seat ∙ c.lapse.ensures.seat;
     }

@@ -1,0 +1,8 @@
+use session_core::Names;
+
+/// The names of the sessions that accept connections, in order, and which session each belongs to.
+#[derive(Debug, Drop)]
+pub struct Routes {
+    pub names: Vec<Names>,
+    pub sessions: Vec<u16>,
+}
