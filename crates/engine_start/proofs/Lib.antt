@@ -1,0 +1,4 @@
+pub mod NewBooks
+pub mod NewEnds
+pub mod Outset
+pub mod Places
