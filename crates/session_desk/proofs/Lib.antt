@@ -2,3 +2,4 @@ pub mod Agreeing
 pub mod Same
 pub mod Proceeding
 pub mod RoutedTo
+pub mod Counting
