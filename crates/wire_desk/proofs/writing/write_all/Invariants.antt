@@ -1,0 +1,27 @@
+use Rattle.std.proofs.Common.{◌-◌, ◌≡◌, ◌<◌, ◌≤◌, length, IfOk, IfSome, IsNone, IsSome, None, OnOk, true, ℕ, ◌+◌, ◌*◌}
+use Rattle.connection_core.specs.Outgoing.{waiting_text, written_text}
+use Rattle.connection_core.specs.declared.limits.TheConstants.{MOST_WRITTEN}
+use Rattle.gate_io.specs.Wire.{IsOpen, LinkGoesOn, OthersStay}
+use Rattle.lease_desk.specs.Desk.{AllAgree}
+use Rattle.session_desk.specs.Steps.{IsSteady}
+use Rattle.switchboard.specs.Board.{connection_at}
+use Rattle.wire_desk.specs.Lines.{IsSetUp, IsWired, TookWhatIsWritten}
+use Rattle.wire_desk.specs.Places.{open_places}
+use Rattle.wire_desk.specs.Steps.{GoesOnWriting, HasStopped, NameSessions, PartsIfNeeded, PreparesTo, Progresses, StaysUntold, Writes, WritesOnce, WritesSome, cause_behind, sessions_of}
+use Rattle.wire_desk.proofs.Writes.{GoesOnAtWire}
+use Rattle.wire_desk.proofs.writing.write_all.Given as goal
+
+abbrev pub invariant-loop-bytes : goal.invariant-loop-bytes
+invariant-loop-bytes g l =
+    let number = (connection_at l.fn.desk.board l.k).number in
+    record {
+      few : l.bytes ≤ MOST_WRITTEN;
+      writes : WritesSome l.k l.bytes l.fn.desk.board l.desk.board;
+      wire : GoesOnAtWire number (g.W.Wire.door l.fn.wire) (g.W.Wire.door l.wire) (g.W.Wire.link l.fn.wire) (g.W.Wire.link l.wire) (connection_at l.desk.board l.k);
+      changes : GoesOnWriting l.k l.fn.desk.board l.desk.board;
+      steady : IsSteady l.desk.board l.desk.seat;
+      seat : l.desk.seat ≡ l.fn.desk.seat;
+    }
+
+abbrev pub decreases-loop-bytes : goal.decreases-loop-bytes
+decreases-loop-bytes g l = MOST_WRITTEN - l.bytes

@@ -1,0 +1,65 @@
+//! Laws of the definitions. Each is the contract of a function that does nothing.
+
+ghost use Rattle.std.specs.Prelude.{◌≡◌, ◌+◌, ◌<◌, ◌≤◌, ◌++◌, ◌∷◌, [], ℕ, List, false, length, None};
+ghost use Rattle.connection_core.specs.Connection.{ConnectionState, room};
+ghost use Rattle.connection_core.specs.declared.limits.TheConstants.{MOST_READ};
+ghost use Rattle.gate_io.specs.Wire.{Door, Link, OthersStay};
+ghost use Rattle.gate_io.specs.declared.wires.TheConstants.{FIRST_DIALLED};
+ghost use Rattle.lease_desk.specs.declared.desk.LeaseDesk.{LeaseDesk};
+ghost use Rattle.lease_words.specs.Views.{TableRef};
+ghost use Rattle.session_book.specs.Records.{Pending};
+ghost use Rattle.session_desk.specs.Steps.{AreNoted, IsSteady, Proceeds};
+ghost use Rattle.switchboard.specs.Board.{Board, connection_at};
+ghost use Rattle.switchboard.specs.Going.{GoesOnTo, KeepsBytes};
+ghost use Rattle.switchboard.specs.Happenings.{Happening, Happens, IsNewNumber, Reaches};
+ghost use Rattle.wire_desk.specs.Lines.{IsOnWire, IsSetUp, IsWired};
+ghost use Rattle.wire_desk.specs.declared.desk.WireDesk.{WireDesk};
+ghost use Rattle.wire_desk.specs.Steps.{NameSessions, Progresses};
+
+use session_desk::laws::sessions_proceed;
+use switchboard::laws::boards_go_on;
+
+/// Sessions and connections progress, whatever one connection brings, and stay on the wire as they are on
+/// the board.
+pub fn lines_progress()
+    ensures itself { (board : Board) (k : ℕ) → Progresses k board board }
+    ensures further { (k : ℕ) (first second third : Board) → Progresses k first second → Progresses k second third → Progresses k first third }
+    // What a session does in a turn.
+    ensures proceeds { (k : ℕ) (old new : Board) → length new.connections ≡ length old.connections → k < length old.connections → Proceeds old new → Progresses k old new }
+    // The wire was read on this connection.
+    ensures wired { (k : ℕ) (old new : Board) (places : List ℕ) (door : Door) (before after : ℕ → Link) → k < length old.connections → Progresses k old new
+        → OthersStay before after (connection_at old k).number → (after (connection_at old k).number).closed ≡ false → (after (connection_at old k).number).written ≡ (before (connection_at old k).number).written
+        → ((connection_at new k).cause ≡ None → MOST_READ ≤ room (connection_at new k)) → IsWired old places door before → IsWired new places door after }
+    // Nothing came, was cut or written.
+    ensures still { (old new : Board) (places : List ℕ) (door : Door) (links : ℕ → Link) → GoesOnTo old new → length new.connections ≡ length old.connections
+        → ((k : ℕ) → k < length old.connections → KeepsBytes (connection_at old k) (connection_at new k)) → IsWired old places door links → IsWired new places door links }
+    // Routes and notes stay those of the sessions.
+    ensures set_up { (leases : TableRef) (old new : LeaseDesk) (w_old w_new : WireDesk) → GoesOnTo old.board new.board → new.seat.table ≡ old.seat.table → w_new.routes ≡ w_old.routes
+        → length w_new.buffer.items ≡ length w_old.buffer.items → AreNoted w_new.unkept.items new.board → IsSteady new.board new.seat → IsSetUp leases old w_old → IsSetUp leases new w_new }
+    ensures noted { (old new : Board) (unkept : List Pending) → GoesOnTo old new → AreNoted unkept old → AreNoted unkept new }
+    // The next number that the wire gives is no connection's.
+    ensures accepted_is_new { (board : Board) (places : List ℕ) (door : Door) (links : ℕ → Link) → door.accepted < FIRST_DIALLED → IsWired board places door links → IsNewNumber board door.accepted }
+    ensures dialled_is_new { (board : Board) (places : List ℕ) (door : Door) (links : ℕ → Link) → IsWired board places door links → IsNewNumber board (FIRST_DIALLED + door.dialled) }
+    // The wire was asked for a connection, and gave none.
+    ensures none_came { (board : Board) (places : List ℕ) (door after_door : Door) (before after : ℕ → Link) (n : ℕ) → door.accepted ≤ after_door.accepted → door.dialled ≤ after_door.dialled
+        → IsNewNumber board n → OthersStay before after n → IsWired board places door before → IsWired board places after_door after }
+    // It gave one, which is listed behind the accepted ones, or behind the dialled ones.
+    ensures came_first { (old new : Board) (c : ConnectionState) (first last : List ℕ) (door after_door : Door) (before after : ℕ → Link) → new.connections ≡ old.connections ++ c ∷ [] → door.accepted ≤ after_door.accepted
+        → door.dialled ≤ after_door.dialled → IsNewNumber old c.number → OthersStay before after c.number → IsOnWire after_door after c → (after c.number).closed ≡ false
+        → IsWired old (first ++ last) door before → IsWired new ((first ++ length old.connections ∷ []) ++ last) after_door after }
+    ensures came_last { (old new : Board) (c : ConnectionState) (first last : List ℕ) (door after_door : Door) (before after : ℕ → Link) → new.connections ≡ old.connections ++ c ∷ [] → door.accepted ≤ after_door.accepted
+        → door.dialled ≤ after_door.dialled → IsNewNumber old c.number → OthersStay before after c.number → IsOnWire after_door after c → (after c.number).closed ≡ false
+        → IsWired old (first ++ last) door before → IsWired new (first ++ (last ++ length old.connections ∷ [])) after_door after }
+{
+    sessions_proceed();
+    boards_go_on();
+}
+
+/// Each session that a connection names is there, whatever happens.
+pub fn connections_name_sessions()
+    ensures none { (board : Board) → board.connections ≡ [] → NameSessions board }
+    ensures happening { (happening : Happening) (old new : Board) → Happens happening old new → NameSessions old → NameSessions new }
+    ensures run { (happenings : List Happening) (old new : Board) → Reaches happenings old new → NameSessions old → NameSessions new }
+{
+    boards_go_on();
+}

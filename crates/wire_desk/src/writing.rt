@@ -1,0 +1,200 @@
+//! A connection is written to.
+
+ghost use Rattle.std.specs.Prelude.{◌≡◌, ◌<◌, ◌≤◌, length, false, IfOk, IfSome, IsNone, IsSome, None, OnOk, true};
+ghost use Rattle.connection_core.specs.Outgoing.{waiting_text, written_text};
+ghost use Rattle.connection_core.specs.declared.limits.TheConstants.{MOST_WRITTEN};
+ghost use Rattle.gate_io.specs.Wire.{IsOpen, LinkGoesOn, OthersStay};
+ghost use Rattle.lease_desk.specs.Desk.{AllAgree};
+ghost use Rattle.session_desk.specs.Steps.{IsSteady};
+ghost use Rattle.switchboard.specs.Board.{connection_at};
+ghost use Rattle.switchboard.specs.Going.{IsWrittenAsBefore};
+ghost use Rattle.wire_desk.specs.Lines.{IsOpenPlace, IsSetUp, TookWhatIsWritten};
+ghost use Rattle.wire_desk.specs.Steps.{AreOnWire, GoesOnWriting, HasStopped, NameSessions, PartsIfNeeded, PreparesTo, Progresses, ProgressesWriting, StaysUntold, Writes, WritesOnce, WritesSome, cause_behind, sessions_of};
+
+use crate::desk::WireDesk;
+use crate::laws::{connections_name_sessions, lines_progress};
+use crate::reading::part;
+use crate::written::{Stop, Written, Wrote};
+use connection_core::MOST_WRITTEN;
+use gate_io::{NoMemory, Wire, WireWrote};
+use lease_desk::LeaseDesk;
+use lease_desk::laws::boards_stay_in_step;
+use lease_words::Leases;
+use session_core::Cause;
+use session_desk::laws::sessions_proceed;
+use std::alloc::Global;
+use switchboard::laws::{boards_go_on, boards_stay_ready, ready_boards_allow};
+
+impl WireDesk {
+    /// Writes what waits on a connection that isn't closed, until the wire took all of it, or as much as a
+    /// turn has for a connection, or takes no more. Behind a fault the connection ends, and so does one on
+    /// which too many items wait. One that has ended is closed.
+    pub fn write<W: Wire>(
+        &mut self,
+        alloc: Global,
+        desk: &mut LeaseDesk,
+        leases: &Leases,
+        wire: &mut W,
+        k: usize,
+    ) -> Result<Written, NoMemory>
+        requires set_up { IsSetUp leases.now desk.old self.old }
+        requires named { NameSessions desk.old.board }
+        requires on_wire { AreOnWire desk.old.board (W.door wire.old) (W.link wire.old) }
+        requires open_place { IsOpenPlace desk.old.board (W.link wire.old) k }
+        requires untold { StaysUntold W.link W.write_gives }
+        ensures writes { IfOk result (λ written. Writes written k (W.link wire.old (connection_at desk.old.board k).number) (W.link wire.new (connection_at desk.old.board k).number)
+            (sessions_of desk.old self.old.unkept.items) (sessions_of desk.new self.new.unkept.items)) }
+        ensures goes_on { LinkGoesOn (W.link wire.old (connection_at desk.old.board k).number) (W.link wire.new (connection_at desk.old.board k).number) }
+        ensures door { W.door wire.new ≡ W.door wire.old }
+        ensures others { OthersStay (W.link wire.old) (W.link wire.new) (connection_at desk.old.board k).number }
+        ensures closed { OnOk result (IsSome (connection_at desk.new.board k).cause → (W.link wire.new (connection_at desk.old.board k).number).closed ≡ true) }
+        ensures set_up { OnOk result (IsSetUp leases.now desk.new self.new) }
+        ensures named { OnOk result (NameSessions desk.new.board) }
+        ensures on_wire { OnOk result (AreOnWire desk.new.board (W.door wire.new) (W.link wire.new)) }
+        ensures progresses { OnOk result (ProgressesWriting k desk.old.board desk.new.board) }
+        ensures agree { AllAgree desk.new.board desk.new.seat }
+        ensures rest { self.new ≡ self.old }
+    {
+        boards_go_on();
+        sessions_proceed();
+        lines_progress();
+        connections_name_sessions();
+        prepare(alloc, desk, k)?;
+        let written = write_all(desk, wire, k);
+        end_behind(desk, k, written.stop)?;
+        close_if_ended(desk, wire, k);
+        Ok(written)
+    }
+}
+
+/// Makes the texts of what waits on a connection, as much as a turn has for it.
+fn prepare(alloc: Global, desk: &mut LeaseDesk, k: usize) -> Result<(), NoMemory>
+    requires steady { IsSteady desk.old.board desk.old.seat }
+    requires connection { k < length desk.old.board.connections }
+    requires named { NameSessions desk.old.board }
+    ensures prepares { OnOk result (PreparesTo (connection_at desk.old.board k).session k desk.old.board desk.new.board) }
+    ensures goes_on { GoesOnWriting k desk.old.board desk.new.board }
+    ensures written { IsWrittenAsBefore (connection_at desk.old.board k) (connection_at desk.new.board k) }
+    ensures steady { IsSteady desk.new.board desk.new.seat }
+    ensures agree { AllAgree desk.new.board desk.new.seat }
+    ensures seat { desk.new.seat ≡ desk.old.seat }
+{
+    boards_stay_ready();
+    boards_stay_in_step();
+    boards_go_on();
+    ready_boards_allow();
+    match desk.board.connection(k).session() {
+        Some(s) => desk.board.prepare(alloc, usize::from(s), k, MOST_WRITTEN),
+        None => Ok(()),
+    }
+}
+
+/// Writes what waits on a connection, until the wire took all of it, or as much as a turn has for a
+/// connection, or takes no more.
+fn write_all<W: Wire>(desk: &mut LeaseDesk, wire: &mut W, k: usize) -> Written
+    requires steady { IsSteady desk.old.board desk.old.seat }
+    requires connection { k < length desk.old.board.connections }
+    requires open_still { IsOpen (W.door wire.old) (W.link wire.old) (connection_at desk.old.board k).number }
+    requires untold { StaysUntold W.link W.write_gives }
+    requires written { TookWhatIsWritten (W.link wire.old (connection_at desk.old.board k).number) (connection_at desk.old.board k) }
+    ensures writes { WritesSome k result.bytes desk.old.board desk.new.board }
+    ensures most { result.bytes ≤ MOST_WRITTEN }
+    ensures stopped { HasStopped result.stop result.bytes (connection_at desk.new.board k) (W.link wire.old (connection_at desk.old.board k).number) (W.link wire.new (connection_at desk.old.board k).number) }
+    ensures written { TookWhatIsWritten (W.link wire.new (connection_at desk.old.board k).number) (connection_at desk.new.board k) }
+    ensures goes_on { LinkGoesOn (W.link wire.old (connection_at desk.old.board k).number) (W.link wire.new (connection_at desk.old.board k).number) }
+    ensures open_still { IsOpen (W.door wire.new) (W.link wire.new) (connection_at desk.old.board k).number }
+    ensures door { W.door wire.new ≡ W.door wire.old }
+    ensures others { OthersStay (W.link wire.old) (W.link wire.new) (connection_at desk.old.board k).number }
+    ensures changes { GoesOnWriting k desk.old.board desk.new.board }
+    ensures steady { IsSteady desk.new.board desk.new.seat }
+    ensures seat { desk.new.seat ≡ desk.old.seat }
+{
+    let mut bytes = 0;
+    while bytes < MOST_WRITTEN {
+        match write_once(desk, wire, k, MOST_WRITTEN - bytes) {
+            Wrote::Bytes(n) => bytes += n,
+            Wrote::Stopped(stop) => return Written { bytes, stop },
+        }
+    }
+    Written {
+        bytes,
+        stop: Stop::MostWritten,
+    }
+}
+
+/// Writes once, at most so many bytes.
+fn write_once<W: Wire>(desk: &mut LeaseDesk, wire: &mut W, k: usize, limit: usize) -> Wrote
+    requires steady { IsSteady desk.old.board desk.old.seat }
+    requires connection { k < length desk.old.board.connections }
+    requires open_still { IsOpen (W.door wire.old) (W.link wire.old) (connection_at desk.old.board k).number }
+    requires untold { StaysUntold W.link W.write_gives }
+    requires written { TookWhatIsWritten (W.link wire.old (connection_at desk.old.board k).number) (connection_at desk.old.board k) }
+    requires some { 0 < limit }
+    ensures writes { WritesOnce limit k result (W.link wire.old (connection_at desk.old.board k).number) (W.link wire.new (connection_at desk.old.board k).number) desk.old.board desk.new.board }
+    ensures written { TookWhatIsWritten (W.link wire.new (connection_at desk.old.board k).number) (connection_at desk.new.board k) }
+    ensures goes_on { LinkGoesOn (W.link wire.old (connection_at desk.old.board k).number) (W.link wire.new (connection_at desk.old.board k).number) }
+    ensures open_still { IsOpen (W.door wire.new) (W.link wire.new) (connection_at desk.old.board k).number }
+    ensures door { W.door wire.new ≡ W.door wire.old }
+    ensures others { OthersStay (W.link wire.old) (W.link wire.new) (connection_at desk.old.board k).number }
+    ensures changes { GoesOnWriting k desk.old.board desk.new.board }
+    ensures steady { IsSteady desk.new.board desk.new.seat }
+    ensures seat { desk.new.seat ≡ desk.old.seat }
+{
+    boards_stay_ready();
+    boards_stay_in_step();
+    let connection = desk.board.connection(k);
+    let piece = connection.waiting(limit);
+    if piece.is_empty() {
+        return Wrote::Stopped(Stop::AllTaken);
+    }
+    match wire.write(connection.number(), piece) {
+        WireWrote::Bytes(n) => {
+            desk.board.wrote(k, n);
+            Wrote::Bytes(n)
+        }
+        WireWrote::Blocked => Wrote::Stopped(Stop::Blocked),
+        WireWrote::Failed => Wrote::Stopped(Stop::Failed),
+    }
+}
+
+/// A connection that stands ends behind a fault, or where too many items wait.
+fn end_behind(desk: &mut LeaseDesk, k: usize, stop: Stop) -> Result<(), NoMemory>
+    requires steady { IsSteady desk.old.board desk.old.seat }
+    requires connection { k < length desk.old.board.connections }
+    ensures ends { OnOk result (PartsIfNeeded (cause_behind stop (connection_at desk.old.board k)) k desk.old.board desk.new.board) }
+    ensures steady { OnOk result (IsSteady desk.new.board desk.new.seat) }
+    ensures progresses { OnOk result (Progresses k desk.old.board desk.new.board) }
+    ensures agree { AllAgree desk.new.board desk.new.seat }
+    ensures seat { desk.new.seat ≡ desk.old.seat }
+{
+    lines_progress();
+    let connection = desk.board.connection(k);
+    if connection.has_ended() {
+        return Ok(());
+    }
+    let cause = match stop {
+        Stop::Failed => Some(Cause::WriteFault),
+        _ => connection.slow_cause(),
+    };
+    match cause {
+        Some(cause) => part(desk, k, cause),
+        None => Ok(()),
+    }
+}
+
+/// A connection that has ended is closed.
+fn close_if_ended<W: Wire>(desk: &LeaseDesk, wire: &mut W, k: usize)
+    requires connection { k < length desk.now.board.connections }
+    requires open_still { IsOpen (W.door wire.old) (W.link wire.old) (connection_at desk.now.board k).number }
+    ensures closed { IsSome (connection_at desk.now.board k).cause → (W.link wire.new (connection_at desk.now.board k).number).closed ≡ true }
+    ensures stands { (connection_at desk.now.board k).cause ≡ None → (W.link wire.new (connection_at desk.now.board k).number).closed ≡ false }
+    ensures written { (W.link wire.new (connection_at desk.now.board k).number).written ≡ (W.link wire.old (connection_at desk.now.board k).number).written }
+    ensures goes_on { LinkGoesOn (W.link wire.old (connection_at desk.now.board k).number) (W.link wire.new (connection_at desk.now.board k).number) }
+    ensures door { W.door wire.new ≡ W.door wire.old }
+    ensures others { OthersStay (W.link wire.old) (W.link wire.new) (connection_at desk.now.board k).number }
+{
+    let connection = desk.board.connection(k);
+    if connection.has_ended() {
+        wire.close(connection.number());
+    }
+}
