@@ -5,3 +5,4 @@ pub mod OneByOne
 pub mod Writes
 pub mod Naming
 pub mod OnWire
+pub mod Turn

@@ -23,12 +23,21 @@ use Rattle.wire_desk.proofs.Writes.{GoesOnAtWire, count_stays, line_here, line_t
 use Rattle.wire_desk.specs.Lines.{IsNumbered, IsOnWire, TookWhatIsWritten}
 use Rattle.wire_desk.specs.Steps.{AreOnWire, GoesOnWriting, KeepsWhatCame, NameSessions, PartsIfNeeded, Progresses, ProgressesWriting}
 
-stands_since : (old new : Option Cause) → ((cause : Cause) → old ≡ Some cause → new ≡ Some cause) → new ≡ None → old ≡ None
+pub stands_since : (old new : Option Cause) → ((cause : Cause) → old ≡ Some cause → new ≡ Some cause) → new ≡ None → old ≡ None
 stands_since None new ended none = refl
 stands_since (Some cause) new ended none = absurd (cc (ended cause refl, none))
 
 pub took_since : (before after : Link) (old new : ConnectionState) → after.written ≡ before.written → written_text new.out.outgoing ≡ written_text old.out.outgoing → TookWhatIsWritten before old → TookWhatIsWritten after new
 took_since before after old new same text was = subst (λ w. IfSome w (λ bytes. bytes ≡ written_text new.out.outgoing)) (sym same) (subst (λ t. IfSome before.written (λ bytes. bytes ≡ t)) (sym text) was)
+
+pub leases_further : (first second third : Board) (s : ℕ) → GoesOn first second s → GoesOn second third s → GoesOn first third s
+leases_further first second third s one two = record {
+  inbound = (let a = one.inbound in let b = two.inbound in omega arith);
+  lease = λ some.
+      let later = two.lease some in
+      let before = one.lease (subst (λ n. 0 < n) later.0 some) in
+      (later.0 ∙ before.0, later.1 ∙ before.1);
+}
 
 -- what came stays as a connection ends
 came_itself : (c : ConnectionState) → KeepsWhatCame c c

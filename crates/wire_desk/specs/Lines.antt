@@ -1,6 +1,6 @@
 -- The connections of a board, as the wire has them.
-use Rattle.std.specs.Prelude.{◌≡◌, ◌≢◌, ℕ, ◌+◌, ◌<◌, ◌≤◌, Bool, true, false, List, length, Option, None, Some, IfSome, slice_get, slice_index_or}
-use Rattle.std.specs.List.{All, Contains}
+use Rattle.std.specs.Prelude.{◌≡◌, ◌≢◌, ℕ, ◌+◌, ◌<◌, ◌≤◌, Bool, true, false, List, length, Option, None, Some, IfSome, slice_get, slice_index_or, nat_lt, is_none, ◌&&◌}
+use Rattle.std.specs.List.{All, Contains, filter}
 use Rattle.connection_core.specs.Connection.{ConnectionState, room}
 use Rattle.connection_core.specs.Outgoing.{written_text}
 use Rattle.connection_core.specs.declared.limits.TheConstants.{MOST_READ}
@@ -34,6 +34,14 @@ pub record IsOnWire (door : Door) (links : ℕ → Link) (c : ConnectionState) :
 pub record IsOpenPlace (board : Board) (links : ℕ → Link) (k : ℕ) : Type 0 where
   pub within : k < length board.connections
   pub open_still : (links (connection_at board k).number).closed ≡ false
+
+-- a connection at this place is there, and stands
+abbrev pub stands_at : Board → ℕ → Bool
+stands_at board k = nat_lt k (length board.connections) && is_none (connection_at board k).cause
+
+-- those of the places whose connection stands
+abbrev pub standing : Board → List ℕ → List ℕ
+standing board places = filter (stands_at board) places
 
 -- Each connection is on the wire, and those at the listed places aren't closed: all that stand are listed.
 pub record IsWired (board : Board) (places : List ℕ) (door : Door) (links : ℕ → Link) : Type 0 where

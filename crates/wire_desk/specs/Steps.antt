@@ -1,11 +1,12 @@
 -- What is asked of the wire for a connection, and what follows from its answer.
-use Rattle.std.specs.Prelude.{◌≡◌, ◌≢◌, ℕ, Bool, true, false, ◌+◌, ◌<◌, ◌≤◌, ◌⊎◌, List, [], ◌∷◌, length, slice_set, take, Option, None, Some, if◌then◌else◌}
+use Rattle.std.specs.Prelude.{◌≡◌, ◌≢◌, ℕ, Bool, true, false, ◌+◌, ◌<◌, ◌≤◌, ◌⊎◌, List, [], ◌∷◌, length, slice_index_or, slice_set, take, Option, None, Some, IsSome, if◌then◌else◌}
+use Rattle.std.specs.List.{AllPairs}
 use Rattle.connection_core.specs.Connection.{ConnectionState, IsLate, slow_cause}
 use Rattle.connection_core.specs.Outgoing.{after_preparing, after_preparing_first, waiting_text}
 use Rattle.connection_core.specs.declared.limits.TheConstants.{MOST_WRITTEN}
 use Rattle.fix_frame.specs.Cut.{CutPiece, garbled, good}
 use Rattle.gate_io.specs.Counts.{HasRisen}
-use Rattle.gate_io.specs.Wire.{Door, Link}
+use Rattle.gate_io.specs.Wire.{Door, Link, LinkGoesOn, OthersStay}
 use Rattle.gate_io.specs.declared.wires.Accepted.{Accepted}
 use Rattle.gate_io.specs.declared.wires.Accepted.TheVariants as accept
 use Rattle.gate_io.specs.declared.wires.WireGot.{WireGot}
@@ -21,7 +22,7 @@ use Rattle.session_desk.specs.declared.routes.Routes.{Routes}
 use Rattle.switchboard.specs.Board.{Board, book_at, connection_at, names_at}
 use Rattle.switchboard.specs.Going.{GoesOnTo, IsWrittenAsBefore, KeepsBytes}
 use Rattle.switchboard.specs.Happenings.{Happens, accepts, gives, next_pieces, prepares, takes, writes}
-use Rattle.wire_desk.specs.Lines.{IsOnWire}
+use Rattle.wire_desk.specs.Lines.{IsOnWire, IsOpenPlace}
 use Rattle.wire_desk.specs.declared.written.Stop.{Stop}
 use Rattle.wire_desk.specs.declared.written.Stop.TheVariants.{AllTaken, Blocked, Failed, MostWritten}
 use Rattle.wire_desk.specs.declared.written.Written.{Written}
@@ -63,6 +64,13 @@ pub record ProgressesWriting (k : ℕ) (old new : Board) : Type 0 where
   pub count : length new.connections ≡ length old.connections
   pub others : (j : ℕ) → j ≢ k → j < length old.connections → KeepsBytes (connection_at old j) (connection_at new j)
   pub came : KeepsWhatCame (connection_at old k) (connection_at new k)
+
+-- sessions and connections go on, each session by no new lease, and no bytes come
+pub record ProgressesUnread (old new : Board) : Type 0 where
+  pub goes_on : GoesOnTo old new
+  pub leases : (s : ℕ) → GoesOn old new s
+  pub count : length new.connections ≡ length old.connections
+  pub came : (k : ℕ) → k < length old.connections → KeepsWhatCame (connection_at old k) (connection_at new k)
 
 -- the wire accepted a connection, or it didn't
 abbrev pub AcceptsAs : Accepted → ℕ → LeaseDesk → LeaseDesk → Type 0
@@ -221,3 +229,33 @@ pub record Writes (written : Written) (k : ℕ) (link_old link_new : Link) (old 
   pub ends : PartsIfNeeded (cause_behind written.stop (connection_at wrote.board k)) k wrote.board new.desk.board
   pub seat_behind : new.desk.seat ≡ wrote.seat
   pub unkept : new.unkept ≡ old.unkept
+
+-- each place is listed once
+abbrev pub AreApart : List ℕ → Type 0
+AreApart places = AllPairs (λ j k. k ≢ j) places
+
+-- connections at the listed places aren't closed, from the i-th place on
+abbrev pub AreOpenFrom : ℕ → Board → (ℕ → Link) → List ℕ → Type 0
+AreOpenFrom i board links places = (j : ℕ) → i ≤ j → j < length places → IsOpenPlace board links (slice_index_or places j 0)
+
+-- the sessions, what the wire tells of the connections, and how many bytes were written so far
+pub record WrittenSoFar : Type 0 where
+  pub sessions : Sessions
+  pub links : ℕ → Link
+  pub bytes : ℕ
+
+abbrev pub written_so_far : LeaseDesk → List Pending → (ℕ → Link) → ℕ → WrittenSoFar
+written_so_far desk unkept links bytes = record { sessions = sessions_of desk unkept; links = links; bytes = bytes }
+
+-- one of the connections is written to, and is closed where it has ended
+pub record WritesAt (k : ℕ) (old new : WrittenSoFar) : Type 0 where
+  pub written : Written
+  pub writes : Writes written k (old.links (connection_at old.sessions.desk.board k).number) (new.links (connection_at old.sessions.desk.board k).number) old.sessions new.sessions
+  pub goes_on : LinkGoesOn (old.links (connection_at old.sessions.desk.board k).number) (new.links (connection_at old.sessions.desk.board k).number)
+  pub others : OthersStay old.links new.links (connection_at old.sessions.desk.board k).number
+  pub closed : IsSome (connection_at new.sessions.desk.board k).cause → (new.links (connection_at old.sessions.desk.board k).number).closed ≡ true
+  pub bytes : new.bytes ≡ old.bytes + written.bytes
+
+-- the connections at the listed places are written to, one after another
+abbrev pub WritesInTurn : List ℕ → ℕ → WrittenSoFar → WrittenSoFar → Type 0
+WritesInTurn places count old new = InTurn (λ i. WritesAt (slice_index_or places i 0)) count old new

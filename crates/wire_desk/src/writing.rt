@@ -1,15 +1,17 @@
 //! A connection is written to.
 
-ghost use Rattle.std.specs.Prelude.{◌≡◌, ◌<◌, ◌≤◌, length, false, IfOk, IfSome, IsNone, IsSome, None, OnOk, true};
+ghost use Rattle.std.specs.Prelude.{◌≡◌, ◌+◌, ◌<◌, ◌≤◌, length, false, IfOk, IfSome, IsNone, IsSome, None, OnOk, true};
 ghost use Rattle.connection_core.specs.Outgoing.{waiting_text, written_text};
 ghost use Rattle.connection_core.specs.declared.limits.TheConstants.{MOST_WRITTEN};
 ghost use Rattle.gate_io.specs.Wire.{IsOpen, LinkGoesOn, OthersStay};
+ghost use Rattle.gate_io.specs.declared.wires.TheConstants.{MOST_CONNECTIONS, MOST_DIALLED};
 ghost use Rattle.lease_desk.specs.Desk.{AllAgree};
 ghost use Rattle.session_desk.specs.Steps.{IsSteady};
 ghost use Rattle.switchboard.specs.Board.{connection_at};
 ghost use Rattle.switchboard.specs.Going.{IsWrittenAsBefore};
-ghost use Rattle.wire_desk.specs.Lines.{IsOpenPlace, IsSetUp, TookWhatIsWritten};
-ghost use Rattle.wire_desk.specs.Steps.{AreOnWire, GoesOnWriting, HasStopped, NameSessions, PartsIfNeeded, PreparesTo, Progresses, ProgressesWriting, StaysUntold, Writes, WritesOnce, WritesSome, cause_behind, sessions_of};
+ghost use Rattle.wire_desk.specs.Lines.{IsOpenPlace, IsSetUp, IsWired, TookWhatIsWritten, standing, stands_at};
+ghost use Rattle.wire_desk.specs.Places.{open_places};
+ghost use Rattle.wire_desk.specs.Steps.{AreApart, AreOnWire, AreOpenFrom, GoesOnWriting, HasStopped, NameSessions, PartsIfNeeded, PreparesTo, Progresses, ProgressesUnread, ProgressesWriting, StaysUntold, Writes, WritesInTurn, WritesOnce, WritesSome, cause_behind, sessions_of, written_so_far};
 
 use crate::desk::WireDesk;
 use crate::laws::{connections_name_sessions, lines_progress};
@@ -23,6 +25,7 @@ use lease_words::Leases;
 use session_core::Cause;
 use session_desk::laws::sessions_proceed;
 use std::alloc::Global;
+use switchboard::Switchboard;
 use switchboard::laws::{boards_go_on, boards_stay_ready, ready_boards_allow};
 
 impl WireDesk {
@@ -30,30 +33,29 @@ impl WireDesk {
     /// turn has for a connection, or takes no more. Behind a fault the connection ends, and so does one on
     /// which too many items wait. One that has ended is closed.
     pub fn write<W: Wire>(
-        &mut self,
+        &self,
         alloc: Global,
         desk: &mut LeaseDesk,
         leases: &Leases,
         wire: &mut W,
         k: usize,
     ) -> Result<Written, NoMemory>
-        requires set_up { IsSetUp leases.now desk.old self.old }
+        requires set_up { IsSetUp leases.now desk.old self.now }
         requires named { NameSessions desk.old.board }
         requires on_wire { AreOnWire desk.old.board (W.door wire.old) (W.link wire.old) }
         requires open_place { IsOpenPlace desk.old.board (W.link wire.old) k }
         requires untold { StaysUntold W.link W.write_gives }
         ensures writes { IfOk result (λ written. Writes written k (W.link wire.old (connection_at desk.old.board k).number) (W.link wire.new (connection_at desk.old.board k).number)
-            (sessions_of desk.old self.old.unkept.items) (sessions_of desk.new self.new.unkept.items)) }
+            (sessions_of desk.old self.now.unkept.items) (sessions_of desk.new self.now.unkept.items)) }
         ensures goes_on { LinkGoesOn (W.link wire.old (connection_at desk.old.board k).number) (W.link wire.new (connection_at desk.old.board k).number) }
         ensures door { W.door wire.new ≡ W.door wire.old }
         ensures others { OthersStay (W.link wire.old) (W.link wire.new) (connection_at desk.old.board k).number }
         ensures closed { OnOk result (IsSome (connection_at desk.new.board k).cause → (W.link wire.new (connection_at desk.old.board k).number).closed ≡ true) }
-        ensures set_up { OnOk result (IsSetUp leases.now desk.new self.new) }
+        ensures set_up { OnOk result (IsSetUp leases.now desk.new self.now) }
         ensures named { OnOk result (NameSessions desk.new.board) }
         ensures on_wire { OnOk result (AreOnWire desk.new.board (W.door wire.new) (W.link wire.new)) }
         ensures progresses { OnOk result (ProgressesWriting k desk.old.board desk.new.board) }
         ensures agree { AllAgree desk.new.board desk.new.seat }
-        ensures rest { self.new ≡ self.old }
     {
         boards_go_on();
         sessions_proceed();
@@ -65,7 +67,98 @@ impl WireDesk {
         close_if_ended(desk, wire, k);
         Ok(written)
     }
+
+    /// Writes to each connection that isn't closed, in the order of their numbers, and lists those that
+    /// have ended no longer: they are closed. Answers how many bytes were written on all of them.
+    pub fn write_all_open<W: Wire>(
+        &mut self,
+        alloc: Global,
+        desk: &mut LeaseDesk,
+        leases: &Leases,
+        wire: &mut W,
+    ) -> Result<usize, NoMemory>
+        requires set_up { IsSetUp leases.now desk.old self.old }
+        requires named { NameSessions desk.old.board }
+        requires wired { IsWired desk.old.board (open_places self.old) (W.door wire.old) (W.link wire.old) }
+        requires apart { AreApart (open_places self.old) }
+        requires few { length (open_places self.old) ≤ MOST_CONNECTIONS + MOST_DIALLED }
+        requires untold { StaysUntold W.link W.write_gives }
+        ensures writes { IfOk result (λ bytes. WritesInTurn (open_places self.old) (length (open_places self.old))
+            (written_so_far desk.old self.old.unkept.items (W.link wire.old) 0) (written_so_far desk.new self.old.unkept.items (W.link wire.new) bytes)) }
+        ensures door { W.door wire.new ≡ W.door wire.old }
+        ensures set_up { OnOk result (IsSetUp leases.now desk.new self.new) }
+        ensures named { OnOk result (NameSessions desk.new.board) }
+        ensures listed { OnOk result (open_places self.new ≡ standing desk.new.board (open_places self.old)) }
+        ensures wired { OnOk result (IsWired desk.new.board (open_places self.new) (W.door wire.new) (W.link wire.new)) }
+        ensures apart { OnOk result (AreApart (open_places self.new)) }
+        ensures progresses { OnOk result (ProgressesUnread desk.old.board desk.new.board) }
+        ensures agree { AllAgree desk.new.board desk.new.seat }
+        ensures rest { self.new ≡ record self.old { accepted = self.new.accepted; dialled = self.new.dialled } }
+    {
+        let bytes = self.write_each(alloc, desk, leases, wire)?;
+        self.drop_ended(desk);
+        Ok(bytes)
+    }
+
+    /// Writes to each connection that isn't closed, in the order of their numbers.
+    fn write_each<W: Wire>(
+        &self,
+        alloc: Global,
+        desk: &mut LeaseDesk,
+        leases: &Leases,
+        wire: &mut W,
+    ) -> Result<usize, NoMemory>
+        requires set_up { IsSetUp leases.now desk.old self.now }
+        requires named { NameSessions desk.old.board }
+        requires on_wire { AreOnWire desk.old.board (W.door wire.old) (W.link wire.old) }
+        requires open_places { AreOpenFrom 0 desk.old.board (W.link wire.old) (open_places self.now) }
+        requires apart { AreApart (open_places self.now) }
+        requires few { length (open_places self.now) ≤ MOST_CONNECTIONS + MOST_DIALLED }
+        requires untold { StaysUntold W.link W.write_gives }
+        ensures writes { IfOk result (λ bytes. WritesInTurn (open_places self.now) (length (open_places self.now))
+            (written_so_far desk.old self.now.unkept.items (W.link wire.old) 0) (written_so_far desk.new self.now.unkept.items (W.link wire.new) bytes)) }
+        ensures door { W.door wire.new ≡ W.door wire.old }
+        ensures set_up { OnOk result (IsSetUp leases.now desk.new self.now) }
+        ensures named { OnOk result (NameSessions desk.new.board) }
+        ensures on_wire { OnOk result (AreOnWire desk.new.board (W.door wire.new) (W.link wire.new)) }
+        ensures progresses { OnOk result (ProgressesUnread desk.old.board desk.new.board) }
+        ensures agree { AllAgree desk.new.board desk.new.seat }
+    {
+        boards_go_on();
+        lines_progress();
+        let mut bytes = 0;
+        for i in 0..self.open_count() {
+            let k = self.open_place(i);
+            let written = self.write(alloc, desk, leases, wire, k)?;
+            bytes += written.bytes;
+        }
+        Ok(bytes)
+    }
+
+    /// The connections that have ended are listed no longer.
+    fn drop_ended(&mut self, desk: &LeaseDesk)
+        ensures listed { open_places self.new ≡ standing desk.now.board (open_places self.old) }
+        ensures rest { self.new ≡ record self.old { accepted = self.new.accepted; dialled = self.new.dialled } }
+    {
+        keep_standing(&mut self.accepted, &desk.board);
+        keep_standing(&mut self.dialled, &desk.board);
+    }
 }
+
+/// Keeps the places whose connection stands.
+fn keep_standing(places: &mut Vec<usize>, board: &Switchboard)
+    ensures { places.new.items ≡ standing board.now places.old.items }
+{
+    places.retain(|k| stands(board, *k));
+}
+
+/// Whether a connection stands at this place.
+fn stands(board: &Switchboard, k: usize) -> bool
+    ensures { result ≡ stands_at board.now k }
+{
+    k < board.connections() && !board.connection(k).has_ended()
+}
+
 
 /// Makes the texts of what waits on a connection, as much as a turn has for it.
 fn prepare(alloc: Global, desk: &mut LeaseDesk, k: usize) -> Result<(), NoMemory>

@@ -1,0 +1,93 @@
+-- Each connection that isn't closed was written to, and those that have ended are listed no longer.
+use Rattle.std.proofs.Common.{◌≡◌, ◌≢◌, ◌⊎◌, inl, inr, ℕ, zero, suc, ◌+◌, ◌<◌, ◌≤◌, Bool, true, false, cond, List, [], ◌∷◌, ◌++◌, length, get_or, Option, None, Some, refl, sym, ap, subst, ◌∙◌, arith}
+use Rattle.std.proofs.lemmas.Bool.{lt-ltb, ltb-true}
+use Rattle.std.proofs.lemmas.List.Elements.{All-weaker, Contains-append_right, filter_passes}
+use Rattle.std.proofs.lemmas.List.Kept.{AllPairs-filter}
+use Rattle.std.specs.List.{All, AllPairs, Contains, filter}
+use Rattle.std.specs.Prelude.{◌&&◌, is_none, nat_lt}
+use Rattle.gate_io.specs.Wire.{Door, Link, OthersStay}
+use Rattle.lease_desk.specs.Desk.{GoesOn}
+use Rattle.session_core.specs.declared.causes.Cause.{Cause}
+use Rattle.switchboard.specs.Board.{Board, connection_at}
+use Rattle.switchboard.specs.Going.{GoesOnTo}
+use Rattle.wire_desk.proofs.OnWire.{leases_further, stands_since}
+use Rattle.wire_desk.proofs.Progress.{same_or_other}
+use Rattle.wire_desk.specs.Lines.{IsOpenPlace, IsWired, standing, stands_at}
+use Rattle.wire_desk.specs.Steps.{AreApart, AreOnWire, AreOpenFrom, KeepsWhatCame, Progresses, ProgressesUnread, ProgressesWriting}
+
+came_further : (old mid new : Board) (k : ℕ) → KeepsWhatCame (connection_at old k) (connection_at mid k) → KeepsWhatCame (connection_at mid k) (connection_at new k) → KeepsWhatCame (connection_at old k) (connection_at new k)
+came_further old mid new k one two = record { taken = two.taken ∙ one.taken; held = two.held ∙ one.held; garbled = two.garbled ∙ one.garbled }
+
+pub unread_itself : (board : Board) → Progresses 0 board board → ProgressesUnread board board
+unread_itself board is = record { goes_on = is.goes_on; leases = is.leases; count = refl; came = λ k within. record { taken = refl; held = refl; garbled = refl } }
+
+-- one more is written to
+pub unread_further : ((first second third : Board) → GoesOnTo first second → GoesOnTo second third → GoesOnTo first third) → (k : ℕ) (old mid new : Board) → ProgressesUnread old mid → ProgressesWriting k mid new → ProgressesUnread old new
+unread_further law k old mid new one two = record {
+  goes_on = law old mid new one.goes_on two.goes_on;
+  leases = λ s. leases_further old mid new s (one.leases s) (two.leases s);
+  count = two.count ∙ one.count;
+  came = λ j within. came_further old mid new j (one.came j within) (elim (same_or_other j k) [
+    | inl e ↦ subst (λ n. KeepsWhatCame (connection_at mid n) (connection_at new n)) (sym e) two.came
+    | inr other ↦ (let bytes = two.others j other (subst (λ n. j < n) (sym one.count) within) in record { taken = bytes.taken; held = bytes.held; garbled = bytes.garbled })
+  ]);
+}
+
+-- the places behind the i-th are as open as before
+pub open_further : (i k : ℕ) (old new : Board) (before after : ℕ → Link) (places : List ℕ) → k ≡ get_or places i 0 → AreApart places
+    → ((j : ℕ) → j < length old.connections → (connection_at old j).number ≡ (connection_at old k).number → j ≡ k) → ProgressesWriting k old new → OthersStay before after (connection_at old k).number
+    → AreOpenFrom i old before places → AreOpenFrom (i + 1) new after places
+open_further i k old new before after places at apart numbers goes others was = λ j behind within.
+    let place = was j (omega arith) within in
+    let p = get_or places j 0 in
+    let differs : p ≢ k = λ e. apart i j 0 (omega arith) within (e ∙ at) in
+    let number = (goes.goes_on.each p place.within).number in
+    record {
+      within = subst (λ n. p < n) (sym goes.count) place.within;
+      open_still = subst (λ n. (after n).closed ≡ false) (sym number)
+          (ap (λ (l : Link). l.closed) (others (connection_at old p).number (λ e. differs (numbers p place.within e))) ∙ place.open_still);
+    }
+
+pub open_at_first : (board : Board) (links : ℕ → Link) (places : List ℕ) → All (IsOpenPlace board links) places → AreOpenFrom 0 board links places
+open_at_first board links places is = λ j behind within. is j 0 within
+
+none_is : (cause : Option Cause) → is_none cause ≡ true → cause ≡ None
+none_is None is = refl
+none_is (Some cause) is = absurd (cc is)
+
+both_left : (a b : Bool) → (a && b) ≡ true → a ≡ true
+both_left true b is = refl
+both_left false b is = absurd (cc is)
+
+both_right : (a b : Bool) → (a && b) ≡ true → b ≡ true
+both_right true b is = is
+both_right false b is = absurd (cc is)
+
+both : (a b : Bool) → a ≡ true → b ≡ true → (a && b) ≡ true
+both a b one two = ap (λ x. x && b) one ∙ two
+
+kept_before : (b : Bool) (y : ℕ) (xs : List ℕ) (x : ℕ) → Contains xs x → Contains (cond b (y ∷ xs) xs) x
+kept_before true y xs x is = Contains-append_right (y ∷ []) xs x is
+kept_before false y xs x is = is
+
+-- what passes the test is kept
+kept : (p : ℕ → Bool) (xs : List ℕ) (x : ℕ) → p x ≡ true → Contains xs x → Contains (filter p xs) x
+kept p [] x is (k, within, at) = absurd (omega arith)
+kept p (y ∷ xs) x is (zero, within, at) = subst (λ b. Contains (cond b (y ∷ filter p xs) (filter p xs)) x) (sym (ap p at ∙ is)) (0, omega arith, at)
+kept p (y ∷ xs) x is (suc k, within, at) = kept_before (p y) y (filter p xs) x (kept p xs x is (k, omega arith, at))
+
+pub wired_behind : (old new : Board) (places : List ℕ) (door after_door : Door) (before after : ℕ → Link) → ProgressesUnread old new → AreOnWire new after_door after → IsWired old places door before → IsWired new (standing new places) after_door after
+wired_behind old new places door after_door before after goes on was = record {
+  each = on;
+  listed = All-weaker (λ k. stands_at new k ≡ true) (IsOpenPlace new after) (λ k is.
+      let within : k < length new.connections = ltb-true k (length new.connections) (both_left (nat_lt k (length new.connections)) (is_none (connection_at new k).cause) is) in
+      let none = none_is (connection_at new k).cause (both_right (nat_lt k (length new.connections)) (is_none (connection_at new k).cause) is) in
+      record { within = within; open_still = (on k within).stands none }) (standing new places) (filter_passes (stands_at new) places);
+  all = λ k within none.
+      let small : k < length old.connections = subst (λ n. k < n) goes.count within in
+      let stood = stands_since (connection_at old k).cause (connection_at new k).cause (goes.goes_on.each k small).ended none in
+      kept (stands_at new) places k (both (nat_lt k (length new.connections)) (is_none (connection_at new k).cause) (lt-ltb k (length new.connections) within) (ap is_none none)) (was.all k small stood);
+}
+
+pub apart_behind : (board : Board) (places : List ℕ) → AreApart places → AreApart (standing board places)
+apart_behind board places apart = AllPairs-filter (λ j k. k ≢ j) (stands_at board) places apart
