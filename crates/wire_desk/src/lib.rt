@@ -7,6 +7,7 @@
 
 mod accepting;
 mod desk;
+mod dialling;
 mod handling;
 pub mod laws;
 mod reading;
@@ -14,4 +15,5 @@ mod writing;
 mod written;
 
 pub use desk::WireDesk;
+pub use dialling::{Dialler, dialling_goes_on};
 pub use written::{Stop, Written};
