@@ -5,6 +5,7 @@ ghost use Rattle.engine_config.specs.declared.config.TheConstants.{MOST_WAIT};
 ghost use Rattle.gate_io.specs.Wire.{Dials as TheWireDials, Door, OthersStay};
 ghost use Rattle.gate_io.specs.declared.wires.TheConstants.{FIRST_DIALLED};
 ghost use Rattle.lease_desk.specs.Desk.{AllAgree};
+ghost use Rattle.session_desk.specs.Steps.{Proceeds};
 ghost use Rattle.switchboard.specs.Board.{Board};
 ghost use Rattle.switchboard.specs.Going.{GoesOnTo};
 ghost use Rattle.wire_desk.specs.Dials.{DialsAs, IsDialDue, IsDialling, WaitsBy, plan_at};
@@ -20,6 +21,7 @@ use lease_desk::LeaseDesk;
 use lease_words::Leases;
 use session_book::laws::what_is_told_is_queued;
 use session_desk::dial as dial_session;
+use session_desk::laws::sessions_proceed;
 use std::alloc::Global;
 use switchboard::laws::{boards_go_on, boards_stay_ready};
 
@@ -60,6 +62,7 @@ impl Dialler {
         ensures answer { IfOk result (λ answer. IfSome answer (λ dialled. TheWireDials (W.door wire.old) (W.door wire.new) (W.link wire.new) dialled)) }
         ensures address { IfOk result (λ answer. IfSome answer (λ dialled. IfSome (plan_at self.old s) (λ plan. W.dial_gives wire.old plan.address dialled wire.new))) }
         ensures dials { IfOk result (λ answer. DialsAs answer s at until desk.old desk.new self.old self.new) }
+        ensures proceeds { OnOk result (Proceeds desk.old.board desk.new.board) }
         ensures set_up { OnOk result (IsSetUp leases.now desk.new lines.new) }
         ensures wired { OnOk result (IsWired desk.new.board (open_places lines.new) (W.door wire.new) (W.link wire.new)) }
         ensures dialling { OnOk result (IsDialling desk.new.board (W.door wire.new) self.new) }
@@ -68,6 +71,7 @@ impl Dialler {
     {
         lines_progress();
         dialling_goes_on();
+        sessions_proceed();
         boards_go_on();
         boards_stay_ready();
         what_is_told_is_queued();

@@ -159,7 +159,6 @@ fn stands(board: &Switchboard, k: usize) -> bool
     k < board.connections() && !board.connection(k).has_ended()
 }
 
-
 /// Makes the texts of what waits on a connection, as much as a turn has for it.
 fn prepare(alloc: Global, desk: &mut LeaseDesk, k: usize) -> Result<(), NoMemory>
     requires steady { IsSteady desk.old.board desk.old.seat }

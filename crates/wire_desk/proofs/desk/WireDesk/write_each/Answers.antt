@@ -51,8 +51,11 @@ loop-i-preserved g c =
       bytes = refl;
     } in
     record {
-      writes = rw add-one (written_so_far c.loop-i.desk unkept (link c.loop-i.wire) c.loop-i.bytes, was.writes,
-          subst (λ k. WritesAt k (written_so_far c.loop-i.desk unkept (link c.loop-i.wire) c.loop-i.bytes) (written_so_far c.write.new.desk unkept (link c.write.new.wire) (c.loop-i.bytes + c.in_ok-written.written.bytes))) c.open_place-k.ensures step);
+      writes = rw add-one (
+        written_so_far c.loop-i.desk unkept (link c.loop-i.wire) c.loop-i.bytes,
+        was.writes,
+        subst (λ k. WritesAt k (written_so_far c.loop-i.desk unkept (link c.loop-i.wire) c.loop-i.bytes) (written_so_far c.write.new.desk unkept (link c.write.new.wire) (c.loop-i.bytes + c.in_ok-written.written.bytes))) c.open_place-k.ensures step,
+      );
       most = (let most = was.most in let more = now.writes.most in omega arith);
       door = now.door ∙ was.door;
       set_up = now.set_up;
