@@ -1,8 +1,9 @@
 -- Each connection that isn't closed was written to, and those that have ended are listed no longer.
-use Rattle.std.proofs.Common.{◌≡◌, ◌≢◌, ◌⊎◌, inl, inr, ℕ, zero, suc, ◌+◌, ◌<◌, ◌≤◌, Bool, true, false, cond, List, [], ◌∷◌, ◌++◌, length, get_or, Option, None, Some, refl, sym, ap, subst, ◌∙◌, arith}
+use Rattle.std.proofs.Common.{◌≡◌, ◌≢◌, ◌⊎◌, inl, inr, ℕ, zero, suc, ◌+◌, ◌<◌, ◌≤◌, Bool, true, false, cond, List, [], ◌∷◌, ◌++◌, length, get_or, Option, None, Some, refl, sym, ap, subst, ◌∙◌, append_assoc, arith}
 use Rattle.std.proofs.lemmas.Bool.{lt-ltb, ltb-true}
-use Rattle.std.proofs.lemmas.List.Elements.{All-weaker, Contains-append_right, filter_passes}
-use Rattle.std.proofs.lemmas.List.Kept.{AllPairs-filter}
+use Rattle.std.proofs.lemmas.List.{append-nil}
+use Rattle.std.proofs.lemmas.List.Elements.{All-cons, All-head, All-tail, All-weaker, Contains-append_right, filter_passes}
+use Rattle.std.proofs.lemmas.List.Kept.{AllPairs-cons, AllPairs-filter}
 use Rattle.std.specs.List.{All, AllPairs, Contains, filter}
 use Rattle.std.specs.Prelude.{◌&&◌, is_none, nat_lt}
 use Rattle.gate_io.specs.Wire.{Door, Link, OthersStay}
@@ -91,3 +92,30 @@ wired_behind old new places door after_door before after goes on was = record {
 
 pub apart_behind : (board : Board) (places : List ℕ) → AreApart places → AreApart (standing board places)
 apart_behind board places apart = AllPairs-filter (λ j k. k ≢ j) (stands_at board) places apart
+
+-- the places are below the next one
+pub within_places : (board : Board) (places : List ℕ) (links : ℕ → Link) → All (IsOpenPlace board links) places → All (λ k. k < length board.connections) places
+within_places board places links is = All-weaker (IsOpenPlace board links) (λ k. k < length board.connections) (λ k place. place.within) places is
+
+first_apart : (x : ℕ) (xs : List ℕ) → AreApart (x ∷ xs) → All (λ k. k ≢ x) xs
+first_apart x xs apart = λ k d within. apart 0 (suc k) d (omega arith) (omega arith)
+
+rest_apart : (x : ℕ) (xs : List ℕ) → AreApart (x ∷ xs) → AreApart xs
+rest_apart x xs apart = λ i j d order within. apart (suc i) (suc j) d (omega arith) (omega arith)
+
+-- all in two lists, with one more between them
+all_more : (P : ℕ → Type 0) (first last : List ℕ) (n : ℕ) → P n → All P (first ++ last) → All P ((first ++ n ∷ []) ++ last)
+all_more P [] last n is all = All-cons P n last is all
+all_more P (x ∷ first) last n is all = All-cons P x ((first ++ n ∷ []) ++ last) (All-head P x (first ++ last) all) (all_more P first last n is (All-tail P x (first ++ last) all))
+
+pub apart_more : (first last : List ℕ) (n : ℕ) → All (λ k. k < n) (first ++ last) → AreApart (first ++ last) → AreApart ((first ++ n ∷ []) ++ last)
+apart_more [] last n below apart = AllPairs-cons (λ j k. k ≢ j) n last (All-weaker (λ k. k < n) (λ k. k ≢ n) (λ k small e. absurd (omega arith)) last below) apart
+apart_more (x ∷ first) last n below apart =
+    let small : x < n = All-head (λ k. k < n) x (first ++ last) below in
+    AllPairs-cons (λ j k. k ≢ j) x ((first ++ n ∷ []) ++ last) (all_more (λ k. k ≢ x) first last n (λ e. absurd (omega arith)) (first_apart x (first ++ last) apart))
+    (apart_more first last n (All-tail (λ k. k < n) x (first ++ last) below) (rest_apart x (first ++ last) apart))
+
+pub apart_dialled : (first last : List ℕ) (n : ℕ) → All (λ k. k < n) (first ++ last) → AreApart (first ++ last) → AreApart (first ++ (last ++ n ∷ []))
+apart_dialled first last n below apart =
+    let more = apart_more (first ++ last) [] n (subst (All (λ k. k < n)) (sym (append-nil (first ++ last))) below) (subst AreApart (sym (append-nil (first ++ last))) apart) in
+    subst AreApart (append-nil ((first ++ last) ++ n ∷ []) ∙ append_assoc first last (n ∷ [])) more

@@ -12,10 +12,9 @@ use Rattle.gate_io.specs.declared.wires.WireWrote.TheVariants as wrote
 use Rattle.switchboard.specs.Board.{Board, connection_at, no_connection, with_connection}
 use Rattle.switchboard.specs.Happenings.{ConnectionChanges, Happens, prepares, writes}
 use Rattle.wire_desk.specs.Lines.{TookWhatIsWritten}
-use Rattle.wire_desk.specs.Steps.{GoesOnWriting, HasStopped, WritesOnce, WritesSome}
+use Rattle.wire_desk.specs.Steps.{GoesOnWriting, HasStopped, WritesSome}
 use Rattle.wire_desk.specs.declared.written.Stop.{Stop}
 use Rattle.wire_desk.specs.declared.written.Stop.TheVariants.{AllTaken, Blocked, Failed, MostWritten}
-use Rattle.wire_desk.specs.declared.written.Wrote.TheVariants.{Stopped}
 
 bool_cases : (b : Bool) → (b ≡ true) ⊎ (b ≡ false)
 bool_cases true = inl refl
@@ -150,19 +149,6 @@ wire_further n first_door second_door third_door first second third c d one two 
   written = two.written;
   door = two.door ∙ one.door;
 }
-
--- a write that stopped wrote nothing
-pub stopped_stays : (stop : Stop) (limit k : ℕ) (before after : Link) (old new : Board) → WritesOnce limit k (Stopped stop) before after old new → new ≡ old
-stopped_stays AllTaken limit k before after old new once = once.1
-stopped_stays MostWritten limit k before after old new once = absurd once
-stopped_stays Blocked limit k before after old new once = once.1
-stopped_stays Failed limit k before after old new once = once.1
-
-pub stopped_here : (stop : Stop) (limit bytes k : ℕ) (first before after : Link) (old new : Board) → LinkGoesOn first before → WritesOnce limit k (Stopped stop) before after old new → HasStopped stop bytes (connection_at new k) first after
-stopped_here AllTaken limit bytes k first before after old new goes once = subst (λ (x : Board). waiting_text (connection_at x k).out.outgoing ≡ []) (sym once.1) once.0
-stopped_here MostWritten limit bytes k first before after old new goes once = absurd once
-stopped_here Blocked limit bytes k first before after old new goes once = λ small. (let more = goes.write_blocks in let rose = once.0 small in omega arith)
-stopped_here Failed limit bytes k first before after old new goes once = λ small. (let more = goes.write_faults in let rose = once.0 small in omega arith)
 
 -- the count that rose is no less behind what follows
 pub stopped_further : (stop : Stop) (bytes : ℕ) (c : ConnectionState) (first second third : Link) → HasStopped stop bytes c first second → LinkGoesOn second third → HasStopped stop bytes c first third

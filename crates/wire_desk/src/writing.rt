@@ -1,7 +1,6 @@
 //! A connection is written to.
 
-ghost use Rattle.std.specs.Prelude.{◌≡◌, ◌+◌, ◌<◌, ◌≤◌, length, false, IfOk, IfSome, IsNone, IsSome, None, OnOk, true};
-ghost use Rattle.connection_core.specs.Outgoing.{waiting_text, written_text};
+ghost use Rattle.std.specs.Prelude.{◌≡◌, ◌+◌, ◌<◌, ◌≤◌, length, false, IfOk, IsSome, None, OnOk, true};
 ghost use Rattle.connection_core.specs.declared.limits.TheConstants.{MOST_WRITTEN};
 ghost use Rattle.gate_io.specs.Wire.{IsOpen, LinkGoesOn, OthersStay};
 ghost use Rattle.gate_io.specs.declared.wires.TheConstants.{MOST_CONNECTIONS, MOST_DIALLED};
@@ -14,7 +13,7 @@ ghost use Rattle.wire_desk.specs.Places.{open_places};
 ghost use Rattle.wire_desk.specs.Steps.{AreApart, AreOnWire, AreOpenFrom, GoesOnWriting, HasStopped, NameSessions, PartsIfNeeded, PreparesTo, Progresses, ProgressesUnread, ProgressesWriting, StaysUntold, Writes, WritesInTurn, WritesOnce, WritesSome, cause_behind, sessions_of, written_so_far};
 
 use crate::desk::WireDesk;
-use crate::laws::{connections_name_sessions, lines_progress};
+use crate::laws::lines_progress;
 use crate::reading::part;
 use crate::written::{Stop, Written, Wrote};
 use connection_core::MOST_WRITTEN;
@@ -60,7 +59,6 @@ impl WireDesk {
         boards_go_on();
         sessions_proceed();
         lines_progress();
-        connections_name_sessions();
         prepare(alloc, desk, k)?;
         let written = write_all(desk, wire, k);
         end_behind(desk, k, written.stop)?;

@@ -1,4 +1,4 @@
-use Rattle.std.proofs.Common.{◌≡◌, Some, refl, sym, ap, ◌∙◌}
+use Rattle.std.proofs.Common.{◌≡◌, Some, refl}
 use Rattle.switchboard.specs.Board.{connection_at}
 use Rattle.switchboard.specs.Happenings.{prepares}
 use Rattle.wire_desk.proofs.writing.prepare.Goals as goal

@@ -1,11 +1,9 @@
-use Rattle.std.proofs.Common.{◌≡◌, ◌<◌, ◌≤◌, ◌-◌, length, inl, inr, ℕ, refl, sym, ap, subst, ◌∙◌, arith}
+use Rattle.std.proofs.Common.{◌≡◌, ◌<◌, inl, refl, sym, ap, subst, ◌∙◌, arith}
 use Rattle.connection_core.specs.Connection.{ConnectionState}
-use Rattle.connection_core.specs.declared.limits.TheConstants.{MOST_WRITTEN}
-use Rattle.gate_io.specs.Wire.{IsOpen, LinkGoesOn, OthersStay}
-use Rattle.switchboard.specs.Board.{Board, connection_at}
+use Rattle.gate_io.specs.Wire.{IsOpen}
+use Rattle.switchboard.specs.Board.{connection_at}
 use Rattle.wire_desk.specs.Lines.{TookWhatIsWritten}
-use Rattle.wire_desk.specs.Steps.{WritesOnce, WritesSome}
-use Rattle.wire_desk.proofs.Writes.{GoesOnAtWire, count_stays, goes_further, goes_itself, line_here, some_further, stopped_here, stopped_stays, wire_further}
+use Rattle.wire_desk.proofs.Writes.{GoesOnAtWire, count_stays, goes_further, goes_itself, line_here, some_further, wire_further}
 use Rattle.wire_desk.proofs.writing.write_all.Given as given
 use Rattle.wire_desk.proofs.writing.write_all.Goals as goal
 

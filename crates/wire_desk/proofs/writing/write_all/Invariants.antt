@@ -1,13 +1,8 @@
-use Rattle.std.proofs.Common.{◌-◌, ◌≡◌, ◌<◌, ◌≤◌, length, IfOk, IfSome, IsNone, IsSome, None, OnOk, true, ℕ, ◌+◌, ◌*◌}
-use Rattle.connection_core.specs.Outgoing.{waiting_text, written_text}
+use Rattle.std.proofs.Common.{◌-◌, ◌≡◌, ◌≤◌}
 use Rattle.connection_core.specs.declared.limits.TheConstants.{MOST_WRITTEN}
-use Rattle.gate_io.specs.Wire.{IsOpen, LinkGoesOn, OthersStay}
-use Rattle.lease_desk.specs.Desk.{AllAgree}
 use Rattle.session_desk.specs.Steps.{IsSteady}
 use Rattle.switchboard.specs.Board.{connection_at}
-use Rattle.wire_desk.specs.Lines.{IsSetUp, IsWired, TookWhatIsWritten}
-use Rattle.wire_desk.specs.Places.{open_places}
-use Rattle.wire_desk.specs.Steps.{GoesOnWriting, HasStopped, NameSessions, PartsIfNeeded, PreparesTo, Progresses, StaysUntold, Writes, WritesOnce, WritesSome, cause_behind, sessions_of}
+use Rattle.wire_desk.specs.Steps.{GoesOnWriting, WritesSome}
 use Rattle.wire_desk.proofs.Writes.{GoesOnAtWire}
 use Rattle.wire_desk.proofs.writing.write_all.Given as goal
 

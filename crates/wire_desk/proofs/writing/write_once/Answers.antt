@@ -1,9 +1,8 @@
-use Rattle.std.proofs.Common.{◌≡◌, ◌≤◌, List, ℕ, Option, None, Some, refl, sym, ap, subst, ◌∙◌, length, take}
+use Rattle.std.proofs.Common.{◌≡◌, ◌≤◌, List, ℕ, refl, sym, ap, subst, ◌∙◌, length, take}
 use Rattle.std.specs.Prelude.{IfSome}
 use Rattle.connection_core.specs.Connection.{ConnectionState}
-use Rattle.connection_core.specs.Outgoing.{Outgoing, after_writing, waiting_text, written_text}
+use Rattle.connection_core.specs.Outgoing.{Outgoing, waiting_text, written_text}
 use Rattle.gate_io.specs.Wire.{WireTakesFrom}
-use Rattle.gate_io.specs.declared.wires.WireWrote.{WireWrote}
 use Rattle.gate_io.specs.declared.wires.WireWrote.TheVariants as wrote
 use Rattle.switchboard.specs.Board.{connection_at}
 use Rattle.switchboard.specs.Happenings.{writes}

@@ -1,15 +1,13 @@
-use Rattle.std.proofs.Common.{◌≡◌, ◌<◌, ◌≤◌, length, false, None, Option, ℕ, refl, sym, ap, subst, ◌∙◌, arith}
+use Rattle.std.proofs.Common.{◌≡◌, false, None, Option, ℕ, refl, sym, ap, subst, ◌∙◌}
 use Rattle.connection_core.specs.Connection.{ConnectionState}
 use Rattle.gate_io.specs.Wire.{Link, LinkGoesOn, OthersStay}
 use Rattle.lease_words.specs.Views.{EngineView}
 use Rattle.session_core.specs.declared.causes.Cause.{Cause}
-use Rattle.session_desk.specs.Steps.{AreNoted, AreRoutes, IsSteady}
-use Rattle.switchboard.specs.Board.{Board, connection_at}
-use Rattle.switchboard.specs.Going.{GoesOnTo}
+use Rattle.switchboard.specs.Board.{connection_at}
 use Rattle.wire_desk.specs.Lines.{TookWhatIsWritten}
-use Rattle.wire_desk.specs.Steps.{AreOnWire, GoesOnWriting, HasStopped, PartsIfNeeded, ProgressesWriting, Writes, cause_behind}
+use Rattle.wire_desk.specs.Steps.{GoesOnWriting, HasStopped, cause_behind}
 use Rattle.wire_desk.proofs.OnWire.{names_stay, number_stays, on_wire, progresses, took_since}
-use Rattle.wire_desk.proofs.Writes.{GoesOnAtWire, goes_further, line_here, link_further, stopped_further}
+use Rattle.wire_desk.proofs.Writes.{GoesOnAtWire, goes_further, line_here, stopped_further}
 use Rattle.wire_desk.proofs.desk.WireDesk.write.Given as given
 use Rattle.wire_desk.proofs.desk.WireDesk.write.Goals as goal
 

@@ -1,11 +1,8 @@
-use Rattle.std.proofs.Common.{◌≡◌, ◌<◌, ◌≤◌, ◌+◌, ◌*◌, add-one, length, ℕ, refl, sym, ap, subst, ◌∙◌, arith}
-use Rattle.connection_core.specs.declared.limits.TheConstants.{MOST_WRITTEN}
-use Rattle.switchboard.specs.Board.{connection_at}
+use Rattle.std.proofs.Common.{◌<◌, ◌+◌, add-one, length, refl, sym, subst, ◌∙◌, arith}
 use Rattle.wire_desk.specs.Lines.{IsOpenPlace}
 use Rattle.wire_desk.specs.Places.{open_places}
 use Rattle.wire_desk.specs.Steps.{WritesAt, written_so_far}
 use Rattle.wire_desk.proofs.Turn.{open_further, unread_further, unread_itself}
-use Rattle.wire_desk.proofs.desk.WireDesk.write_each.Given as given
 use Rattle.wire_desk.proofs.desk.WireDesk.write_each.Goals as goal
 
 pub loop-i-init : goal.loop-i-init
