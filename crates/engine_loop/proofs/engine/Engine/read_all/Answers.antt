@@ -1,0 +1,29 @@
+use Rattle.std.proofs.Common.{◌≡◌, ℕ, List, [], length, add-one, ap, subst, ◌∙◌, arith}
+use Rattle.std.specs.Prelude.{slice_index_or}
+use Rattle.lease_desk.specs.Desk.{InTurn}
+use Rattle.wire_desk.specs.Places.{open_places}
+use Rattle.engine_loop.specs.Turns.{ReadsIfStands, reading_of}
+use Rattle.engine_loop.proofs.engine.Engine.read_all.Goals as goal
+
+pub loop-i-preserved : goal.loop-i-preserved
+loop-i-preserved g c =
+    let was = c.loop-i.invariant in
+    let now = c.in_ok-read_place.ensures in
+    let old = reading_of c.loop-i.self c.loop-i.got.items in
+    let new = reading_of c.read_place.new.self c.read_place.new.got.items in
+    record {
+      turn = rw add-one (old, was.turn, subst (λ n. ReadsIfStands n old new) (c.open_place-k.ensures ∙ ap (λ (places : List ℕ). slice_index_or places c.loop-i.i 0) was.places) now.reads);
+      work = now.work;
+      online = now.online;
+      places = c.read_place.ensures.places ∙ was.places;
+      door = c.read_place.ensures.door ∙ was.door;
+      failed = c.read_place.ensures.failed ∙ was.failed;
+    }
+
+pub returns-clause-reads : goal.returns-clause-reads
+returns-clause-reads g c =
+    let places = open_places c.args.self.now.lines in
+    let start = reading_of c.args.self.now [] in
+    let last = reading_of c.loop-i.self c.loop-i.got.items in
+    let all : c.loop-i.i ≡ length places = (let least = c.loop-i-test.false in let most = c.loop-i.auto.i-end in let count = c.open_count-count.ensures in omega arith) in
+    subst (λ n. InTurn (λ i. ReadsIfStands (slice_index_or places i 0)) n start last) all c.loop-i.invariant.turn

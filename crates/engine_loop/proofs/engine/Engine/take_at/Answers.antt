@@ -1,0 +1,36 @@
+use Rattle.std.proofs.Common.{◌+◌, ℕ, List, [], length, sym, ap, subst}
+use Rattle.engine_loop.specs.Turns.{AcceptsNext, ReadsAll, ServesOne, reading_of, serving_of}
+use Rattle.engine_loop.specs.declared.engine.Engine.{Engine}
+use Rattle.gate_io.specs.declared.wires.WireGot.{WireGot}
+use Rattle.lease_desk.specs.Desk.{InTurn}
+use Rattle.library_desk.specs.declared.serving.LibTurn.{LibTurn}
+use Rattle.wire_desk.specs.Places.{open_places}
+use Rattle.engine_loop.proofs.engine.Engine.take_at.Goals as goal
+
+pub returns-clause-online : goal.returns-clause-online
+returns-clause-online g c =
+    let door = g.W.Wire.door c.read_all.new.wire in
+    let links = g.W.Wire.link c.read_all.new.wire in
+    c.in_ok-note_all.ensures.online door links (c.in_ok-libs.ensures.online door links (c.in_ok-tick_all.ensures.online door links c.in_ok-reads.ensures.online))
+
+pub returns-clause-takes : goal.returns-clause-takes
+returns-clause-takes g c =
+    let accepted = c.accept_next.new.self in
+    let dialled = c.dial_all.new.self in
+    let read = c.read_all.new.self in
+    let ticked = c.tick_all.new.self in
+    let served = c.serve_all.new.self in
+    record {
+      accepted = accepted;
+      dialled = dialled;
+      read = read;
+      ticked = ticked;
+      served = served;
+      moment = ap (λ (e : Engine). e.moment) c.set_moment.ensures.moment;
+      accepts = subst (λ (e : Engine). AcceptsNext c.in_ok-accepted.accepted e accepted) c.set_moment.ensures.moment c.in_ok-accepted.ensures.accepts;
+      dials = c.in_ok-dial_all.ensures.dials;
+      reads = subst (λ (got : List (ℕ × WireGot)). ReadsAll (open_places dialled.lines) (reading_of dialled []) (reading_of read got)) (sym c.of.ensures) c.in_ok-reads.ensures.reads;
+      ticks = c.in_ok-tick_all.ensures.ticks;
+      serves = subst (λ (turns : List LibTurn). InTurn (λ i. ServesOne (i + 1)) (length ticked.sessions.ends.items) (serving_of ticked []) (serving_of served turns)) (sym c.of-2.ensures) c.in_ok-libs.ensures.serves;
+      notes = c.in_ok-note_all.ensures.notes;
+    }

@@ -1,0 +1,47 @@
+use Rattle.std.proofs.Common.{◌≡◌, ℕ, ◌≤◌, List, length, refl, sym, ap, subst, ◌∙◌}
+use Rattle.catchup_pump.specs.declared.cursor.Cursor.{Cursor}
+use Rattle.engine_loop.specs.declared.engine.Engine.{Engine}
+use Rattle.gate_io.specs.declared.clocks.TheConstants.{LAST_MOMENT}
+use Rattle.gate_io.specs.declared.wires.TheConstants.{MOST_CONNECTIONS}
+use Rattle.lease_words.specs.Views.{TableRef}
+use Rattle.library_desk.specs.Serving.{AreCursors, IsLinked}
+use Rattle.library_desk.specs.declared.desk.LibraryDesk.{LibraryDesk}
+use Rattle.wire_desk.specs.Dials.{IsDialling}
+use Rattle.wire_desk.specs.Lines.{IsWired}
+use Rattle.wire_desk.specs.declared.dialling.Dialler.{Dialler}
+use Rattle.engine_loop.proofs.laws.engines_stay.Goals as goal
+
+pub returns-clause-work : goal.returns-clause-work
+returns-clause-work c = λ shared old new rest goes leases set_up was.
+    let desk : new.sessions ≡ record (old.sessions) { desk = new.sessions.desk } = ap (λ (e : Engine). e.sessions) rest in
+    let linked = was.linked in
+    record {
+      linked = subst (λ (d : LibraryDesk). IsLinked shared d) (sym desk) (record {
+        table = set_up.table;
+        depth = linked.depth;
+        sessions = goes.sessions ∙ linked.sessions;
+        few = linked.few;
+        libraries = linked.libraries;
+        known = linked.known;
+        watched = linked.watched;
+        commands = linked.commands;
+        notices = linked.notices;
+      });
+      in_order = record {
+        in_step = set_up.steady.in_step;
+        cursors = subst (λ (cursors : List Cursor). AreCursors new.sessions.desk.board cursors) (sym (ap (λ (d : LibraryDesk). d.cursors.items) desk))
+            (c.cursors_stay.ensures.boards old.sessions.desk.board new.sessions.desk.board old.sessions.cursors.items goes.sessions leases was.in_order.cursors);
+      };
+      set_up = set_up;
+      moment = subst (λ n. n ≤ LAST_MOMENT) (sym (ap (λ (e : Engine). e.moment) rest)) was.moment;
+      most = subst (λ n. n ≤ MOST_CONNECTIONS) (sym (ap (λ (e : Engine). e.connections) rest)) was.most;
+      few = subst (λ (e : Engine). e.accepted ≤ e.connections) (sym rest) was.few;
+    }
+
+pub returns-clause-still : goal.returns-clause-still
+returns-clause-still c = λ old new door links goes count bytes places dialler accepted was. record {
+  wired = subst (λ (xs : List ℕ). IsWired new.sessions.desk.board xs door links) (sym places)
+      (c.lines_progress.ensures.still old.sessions.desk.board new.sessions.desk.board _ door links goes count bytes was.wired);
+  dialling = subst (λ (d : Dialler). IsDialling new.sessions.desk.board door d) (sym dialler) (c.dialling_goes_on.ensures.boards old.sessions.desk.board new.sessions.desk.board door door old.dialler goes refl was.dialling);
+  accepted = accepted ∙ was.accepted;
+}

@@ -1,0 +1,117 @@
+-- The steps of a turn.
+use Rattle.std.specs.Prelude.{◌≡◌, ℕ, ◌+◌, ◌<◌, ◌≤◌, ◌⊎◌, List, [], ◌∷◌, ◌++◌, length, max, min, slice_index_or, Option, None, Some}
+use Rattle.engine_loop.specs.Engines.{until_of}
+use Rattle.engine_loop.specs.declared.engine.Engine.{Engine}
+use Rattle.engine_loop.specs.declared.records.Taken.{Taken}
+use Rattle.gate_io.specs.Wire.{Accepts, Door, Link}
+use Rattle.gate_io.specs.declared.clocks.TheConstants.{LAST_MOMENT}
+use Rattle.gate_io.specs.declared.wires.Accepted.{Accepted}
+use Rattle.gate_io.specs.declared.wires.Accepted.TheVariants.{Failed, New, Nothing}
+use Rattle.gate_io.specs.declared.dials.Dialled.{Dialled}
+use Rattle.gate_io.specs.declared.wires.WireGot.{WireGot}
+use Rattle.lease_desk.specs.Desk.{InTurn}
+use Rattle.library_desk.specs.Serving.{Serves}
+use Rattle.library_desk.specs.declared.serving.LibTurn.{LibTurn}
+use Rattle.session_core.specs.declared.causes.Cause.{Cause}
+use Rattle.session_desk.specs.Steps.{Ticks, noted}
+use Rattle.switchboard.specs.Board.{connection_at}
+use Rattle.wire_desk.specs.Dials.{DialsAs}
+use Rattle.wire_desk.specs.Places.{open_places}
+use Rattle.wire_desk.specs.Steps.{AcceptsAs, Reads, sessions_of}
+
+-- a turn begins: its moment is the clock's reading, or that of the turn before where that is later
+abbrev pub with_moment : ℕ → Engine → Engine
+with_moment reading e = record e { moment = max e.moment (min reading LAST_MOMENT) }
+
+-- one connection more was accepted
+abbrev pub accepted_after : Accepted → ℕ → ℕ
+accepted_after (New number) count = count + 1
+accepted_after Nothing count = count
+accepted_after Failed count = count
+
+-- The wire is asked for a connection, where fewer were accepted than the run has.
+pub record AsksForConnection (answer : Accepted) (old new : Engine) : Type 0 where
+  pub due : old.accepted < old.connections
+  pub accepts : AcceptsAs answer old.moment old.sessions.desk new.sessions.desk
+  pub counted : new.accepted ≡ accepted_after answer old.accepted
+  pub rest : new ≡ record old { sessions = record (old.sessions) { desk = new.sessions.desk }; lines = new.lines; accepted = new.accepted }
+
+abbrev pub AcceptsNext : Accepted → Engine → Engine → Type 0
+AcceptsNext answer old new = AsksForConnection answer old new ⊎ ((old.accepted ≡ old.connections) × ((answer ≡ Nothing) × (new ≡ old)))
+
+-- the wire's answer, where it was asked
+abbrev pub AnswersNext : Accepted → Engine → Door → Door → (ℕ → Link) → Type 0
+AnswersNext answer old before after links = ((old.accepted < old.connections) × Accepts before after links answer) ⊎ ((old.accepted ≡ old.connections) × (after ≡ before))
+
+-- A session dials, where that is due.
+pub record DialsSession (s : ℕ) (old new : Engine) : Type 0 where
+  pub answer : Option Dialled
+  pub dials : DialsAs answer s old.moment (until_of old) old.sessions.desk new.sessions.desk old.dialler new.dialler
+  pub lines : new.lines ≡ record (old.lines) { dialled = new.lines.dialled }
+  pub rest : new ≡ record old { sessions = record (old.sessions) { desk = new.sessions.desk }; lines = new.lines; dialler = new.dialler }
+
+-- a session is gathered, and hears the clock
+pub record TicksSession (s : ℕ) (old new : Engine) : Type 0 where
+  pub end : Option Cause
+  pub ticks : Ticks s old.moment (until_of old) old.sessions.desk new.sessions.desk end
+  pub rest : new ≡ record old { sessions = record (old.sessions) { desk = new.sessions.desk } }
+
+-- an engine, and what was answered so far
+pub record Reading : Type 0 where
+  pub engine : Engine
+  pub got : List (ℕ × WireGot)
+
+abbrev pub reading_of : Engine → List (ℕ × WireGot) → Reading
+reading_of engine got = record { engine = engine; got = got }
+
+-- A connection that stands is read once.
+pub record ReadsOne (k : ℕ) (old new : Reading) : Type 0 where
+  pub answer : WireGot
+  pub stands : (connection_at old.engine.sessions.desk.board k).cause ≡ None
+  pub reads : Reads answer old.engine.lines.routes k new.engine.lines.buffer.items old.engine.moment (until_of old.engine)
+      (sessions_of old.engine.sessions.desk old.engine.lines.unkept.items) (sessions_of new.engine.sessions.desk new.engine.lines.unkept.items)
+  pub told : new.got ≡ old.got ++ ((connection_at old.engine.sessions.desk.board k).number, answer) ∷ []
+  pub lines : new.engine.lines ≡ record (old.engine.lines) { unkept = new.engine.lines.unkept; buffer = new.engine.lines.buffer }
+  pub rest : new.engine ≡ record (old.engine) { sessions = record (old.engine.sessions) { desk = new.engine.sessions.desk }; lines = new.engine.lines }
+
+-- and one that has ended isn't
+abbrev pub ReadsIfStands : ℕ → Reading → Reading → Type 0
+ReadsIfStands k old new = ReadsOne k old new ⊎ (((connection_at old.engine.sessions.desk.board k).cause ≡ None → ⊥) × (new ≡ old))
+
+-- the connections that aren't closed are read, in the order in which these places have them
+abbrev pub ReadsAll : List ℕ → Reading → Reading → Type 0
+ReadsAll places old new = InTurn (λ i. ReadsIfStands (slice_index_or places i 0)) (length places) old new
+
+-- an engine, and what became of the libraries' commands so far
+pub record Serving : Type 0 where
+  pub engine : Engine
+  pub turns : List LibTurn
+
+abbrev pub serving_of : Engine → List LibTurn → Serving
+serving_of engine turns = record { engine = engine; turns = turns }
+
+-- a library is served
+pub record ServesOne (library : ℕ) (old new : Serving) : Type 0 where
+  pub turn : LibTurn
+  pub serves : Serves library old.engine.moment (until_of old.engine) old.engine.sessions new.engine.sessions turn
+  pub told : new.turns ≡ old.turns ++ turn ∷ []
+  pub rest : new.engine ≡ record (old.engine) { sessions = new.engine.sessions }
+
+-- what came of a session's entries is noted
+abbrev pub NotesSession : ℕ → Engine → Engine → Type 0
+NotesSession s old new = (new.lines.unkept.items ≡ noted s old.sessions.desk.board old.lines.unkept.items) × (new ≡ record old { lines = record (old.lines) { unkept = new.lines.unkept } })
+
+-- The first half of a turn: one connection is accepted, sessions dial, each connection that stands is read, each session hears the clock, each library is served.
+pub record TakesTurn (reading : ℕ) (old new : Engine) (taken : Taken) : Type 0 where
+  pub accepted : Engine
+  pub dialled : Engine
+  pub read : Engine
+  pub ticked : Engine
+  pub served : Engine
+  pub moment : taken.moment ≡ (with_moment reading old).moment
+  pub accepts : AcceptsNext taken.accepted (with_moment reading old) accepted
+  pub dials : InTurn DialsSession (length accepted.sessions.desk.board.sessions) accepted dialled
+  pub reads : ReadsAll (open_places dialled.lines) (reading_of dialled []) (reading_of read taken.reads)
+  pub ticks : InTurn TicksSession (length read.sessions.desk.board.sessions) read ticked
+  pub serves : InTurn (λ i. ServesOne (i + 1)) (length ticked.sessions.ends.items) (serving_of ticked []) (serving_of served taken.libs)
+  pub notes : InTurn NotesSession (length served.sessions.desk.board.sessions) served new

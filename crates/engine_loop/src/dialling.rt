@@ -1,0 +1,65 @@
+//! Each session dials that is due.
+
+ghost use Rattle.std.specs.Prelude.{◌≡◌, ◌<◌, length, OnOk};
+ghost use Rattle.engine_loop.specs.Engines.{IsAtWork, IsOnline};
+ghost use Rattle.engine_loop.specs.Turns.{DialsSession};
+ghost use Rattle.lease_desk.specs.Desk.{AllAgree, InTurn};
+
+use crate::engine::Engine;
+use crate::laws::engines_stay;
+use gate_io::{Dial, NoMemory};
+use library_desk::Shared;
+use std::alloc::Global;
+use wire_desk::laws::lines_progress;
+
+impl Engine {
+    /// Each session dials that is due, in the order of their numbers.
+    pub(crate) fn dial_all<W: Dial>(
+        &mut self,
+        alloc: Global,
+        shared: &Shared,
+        wire: &mut W,
+    ) -> Result<(), NoMemory>
+        requires work { IsAtWork shared.now self.old }
+        requires online { IsOnline self.old (W.door wire.old) (W.link wire.old) }
+        ensures dials { OnOk result (InTurn DialsSession (length self.old.sessions.desk.board.sessions) self.old self.new) }
+        ensures work { OnOk result (IsAtWork shared.now self.new) }
+        ensures failed { self.new.failed ≡ self.old.failed }
+        ensures online { OnOk result (IsOnline self.new (W.door wire.new) (W.link wire.new)) }
+        ensures agree { AllAgree self.new.sessions.desk.board self.new.sessions.desk.seat }
+    {
+        for s in 0..self.sessions.desk.board.sessions() {
+            self.dial_session(alloc, shared, wire, s as u16)?;
+        }
+        Ok(())
+    }
+
+    /// A session dials, if it is due.
+    fn dial_session<W: Dial>(
+        &mut self,
+        alloc: Global,
+        shared: &Shared,
+        wire: &mut W,
+        s: u16,
+    ) -> Result<(), NoMemory>
+        requires work { IsAtWork shared.now self.old }
+        requires online { IsOnline self.old (W.door wire.old) (W.link wire.old) }
+        requires session { s < length self.old.sessions.desk.board.sessions }
+        ensures dials { OnOk result (DialsSession s self.old self.new) }
+        ensures work { OnOk result (IsAtWork shared.now self.new) }
+        ensures failed { self.new.failed ≡ self.old.failed }
+        ensures online { OnOk result (IsOnline self.new (W.door wire.new) (W.link wire.new)) }
+        ensures agree { AllAgree self.new.sessions.desk.board self.new.sessions.desk.seat }
+        ensures count { OnOk result (length self.new.sessions.desk.board.sessions ≡ length self.old.sessions.desk.board.sessions) }
+    {
+        engines_stay();
+        let until = self.until();
+        let moment = self.moment;
+        let desk = &mut self.sessions.desk;
+        let leases = &shared.leases;
+        let lines = &mut self.lines;
+        self.dialler
+            .dial(alloc, desk, leases, lines, wire, s, moment, until)?;
+        Ok(())
+    }
+}

@@ -1,0 +1,31 @@
+//! Laws of the definitions. Each is the contract of a function that does nothing.
+
+ghost use Rattle.std.specs.Prelude.{◌≡◌, ◌<◌, ℕ, length};
+ghost use Rattle.engine_loop.specs.Engines.{IsAtWork, IsOnline};
+ghost use Rattle.engine_loop.specs.declared.engine.Engine.{Engine};
+ghost use Rattle.gate_io.specs.Wire.{Door, Link};
+ghost use Rattle.lease_desk.specs.Desk.{GoesOn};
+ghost use Rattle.library_desk.specs.declared.shared.Shared.{Shared};
+ghost use Rattle.switchboard.specs.Board.{connection_at};
+ghost use Rattle.switchboard.specs.Going.{GoesOnTo, KeepsBytes};
+ghost use Rattle.wire_desk.specs.Lines.{IsSetUp};
+ghost use Rattle.wire_desk.specs.Places.{open_places};
+
+use library_desk::laws::cursors_stay;
+use wire_desk::dialling_goes_on;
+use wire_desk::laws::lines_progress;
+
+/// An engine stays at work, and its connections on the wire.
+pub fn engines_stay()
+    // Sessions and connections go on by no new lease.
+    ensures work { (shared : Shared) (old new : Engine) → new ≡ record old { sessions = record (old.sessions) { desk = new.sessions.desk }; lines = new.lines; dialler = new.dialler } → GoesOnTo old.sessions.desk.board new.sessions.desk.board
+        → ((s : ℕ) → GoesOn old.sessions.desk.board new.sessions.desk.board s) → IsSetUp shared.leases new.sessions.desk new.lines → IsAtWork shared old → IsAtWork shared new }
+    // Nothing came, was cut or written.
+    ensures still { (old new : Engine) (door : Door) (links : ℕ → Link) → GoesOnTo old.sessions.desk.board new.sessions.desk.board → length new.sessions.desk.board.connections ≡ length old.sessions.desk.board.connections
+        → ((k : ℕ) → k < length old.sessions.desk.board.connections → KeepsBytes (connection_at old.sessions.desk.board k) (connection_at new.sessions.desk.board k))
+        → open_places new.lines ≡ open_places old.lines → new.dialler ≡ old.dialler → new.accepted ≡ old.accepted → IsOnline old door links → IsOnline new door links }
+{
+    cursors_stay();
+    lines_progress();
+    dialling_goes_on();
+}

@@ -1,0 +1,17 @@
+//! The engine's turn: what is asked of the wire, the clock, the lease table and the rings in a turn, and
+//! in which order.
+#![tactic(auto)]
+
+mod accepting;
+mod dialling;
+mod engine;
+pub mod laws;
+mod noting;
+mod reading;
+mod records;
+mod serving;
+mod taking;
+mod ticking;
+
+pub use engine::Engine;
+pub use records::Taken;
