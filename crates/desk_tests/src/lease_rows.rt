@@ -13,18 +13,18 @@ use lease_core::{Entry, Reply, Why};
 use library_desk::LibTurn::Answered;
 use std::test::Fail;
 
-const LOGON: Step = Hears(0, "35=A|(1)98=0|108=30|");
+pub const LOGON: Step = Hears(0, "35=A|(1)98=0|108=30|");
 
-const FIRST: &str = "35=8|37=O1|";
+pub const FIRST: &str = "35=8|37=O1|";
 
-const SECOND: &str = "35=8|37=O2|";
+pub const SECOND: &str = "35=8|37=O2|";
 
-// Library 1 is granted session 0, of which nothing was accepted.
-const REQUESTS: Step = Requests(1, 0, 0, 1);
+/// Library 1 is granted session 0, of which nothing was accepted.
+pub const REQUESTS: Step = Requests(1, 0, 0, 1);
 
-const ANSWERED: Step = Serves(1, Answered { nr: 1 });
+pub const ANSWERED: Step = Serves(1, Answered { nr: 1 });
 
-const HOLDS: Step = Polls(
+pub const HOLDS: Step = Polls(
     1,
     Seen::Granted {
         nr: 1,
@@ -35,7 +35,7 @@ const HOLDS: Step = Polls(
     },
 );
 
-const GRANTED: Entry = Entry::Granted {
+pub const GRANTED: Entry = Entry::Granted {
     library: 1,
     nr: 1,
     lease: 1,
@@ -55,15 +55,15 @@ const RESERVED: Why = Why::Reserved {
     until: T + 2_000,
 };
 
-// The first send on a session whose Logon was answered, and on one that is bound to no connection.
-const FIRST_SENT: Entry = Send {
+/// The first send on a session whose Logon was answered, and on one that is bound to no connection.
+pub const FIRST_SENT: Entry = Send {
     lease: 1,
     library: 1,
     ordinal: 1,
     number: 2,
 };
 
-const SENT_ALONE: Entry = Send {
+pub const SENT_ALONE: Entry = Send {
     lease: 1,
     library: 1,
     ordinal: 1,

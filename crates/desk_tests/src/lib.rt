@@ -1,5 +1,5 @@
-//! Tests of `switchboard`, `lease_desk` and `library_desk`, by their public calls: rows worked by hand,
-//! with counterparties on connections and two libraries at a real table and real rings.
+//! Tests of `switchboard`, `lease_desk`, `session_desk` and `library_desk`, by their public calls: rows
+//! worked by hand, with counterparties on connections and two libraries at a real table and real rings.
 #![tactic(auto)]
 
 #[cfg(test)]
@@ -10,6 +10,7 @@ mod board_rows;
 mod counterparty;
 #[cfg(test)]
 mod engine;
+pub mod engine_desk;
 #[cfg(test)]
 mod facts;
 #[cfg(test)]
@@ -18,6 +19,8 @@ mod lease_rows;
 mod making;
 #[cfg(test)]
 mod serving_rows;
+#[cfg(test)]
+mod session_rows;
 #[cfg(test)]
 mod steps;
 #[cfg(test)]

@@ -1,27 +1,35 @@
 //! How the sessions, the table, the rings and both their sides are made.
 
-ghost use Rattle.std.specs.Prelude.{◌≡◌, ◌<◌, ◌≤◌, [], None, IfOk, length};
-ghost use Rattle.desk_tests.specs.Outset.{AreEnds, IsFresh};
+ghost use Rattle.std.specs.Prelude.{◌≡◌, ◌+◌, ◌<◌, ◌≤◌, [], None, Some, IfOk, IfSome, OnOk, length, map};
+ghost use Rattle.desk_tests.specs.Outset.{AreEnds, IsFresh, dialler_of, outset_shape};
+ghost use Rattle.desk_tests.specs.Running.{IsRunning};
 ghost use Rattle.lease_core.specs.declared.limits.TheConstants.{MOST_LEASES};
+ghost use Rattle.lease_words.specs.Tokens.{new_engine_seat};
+ghost use Rattle.library_desk.specs.declared.ends.EngineEnds.{EngineEnds};
+ghost use Rattle.session_core.specs.State.{IsDialHeart};
+ghost use Rattle.session_desk.specs.Steps.{AreNoted, AreRoutes};
+ghost use Rattle.switchboard.specs.Board.{book_at};
 ghost use Rattle.switchboard.specs.Sound.{bound_of};
-ghost use Rattle.library_desk.specs.Serving.{IsLinked, IsInOrder};
 
+use crate::engine_desk::EngineDesk;
 use crate::texts::T;
 use catchup_pump::Cursor;
 use fix_fields::LONGEST_NAME;
-use gate_io::NoMemory;
+use gate_io::{Bytes, NoMemory};
 use lease_core::{Command, Notice};
 use lease_desk::LeaseDesk;
-use lease_words::Leases;
+use lease_words::{EngineSeat, LANE_SLOTS, Leases};
 use library_api::LibraryEnds2;
 use library_clock::Watch;
 use library_desk::{EngineEnds, LibraryDesk, Shared};
 use ring_links::{Head, Ring, Tail, ring};
-use session_book::SessionBook;
+use session_book::{Revival, SessionBook, Unkept};
+use session_core::Names;
+use session_desk::Routes;
 use std::alloc::Global;
 use std::test::Fail;
 use switchboard::Switchboard;
-use switchboard::laws::boards_stay_sound;
+use switchboard::laws::boards_stay_ready;
 
 /// How many libraries there are, how long a beat may stand still, and how long an heir is waited for,
 /// in milliseconds.
@@ -30,6 +38,9 @@ pub const LIBRARIES: u8 = 2;
 pub const TIMEOUT: u64 = 5_000;
 
 pub const HOLD: u64 = 2_000;
+
+/// The HeartBtInt of a session that dials, in seconds.
+pub const HEART: u32 = 30;
 
 // How often a session can be granted, how many sends a lease makes, for how many of them a lane has
 // room, and for how many commands a ring.
@@ -44,7 +55,7 @@ const COMMANDS: u64 = 256;
 /// The engine's side and those of the two libraries.
 #[derive(Drop)]
 pub struct Sides {
-    pub desk: LibraryDesk,
+    pub desk: EngineDesk,
     pub first: LibraryEnds2,
     pub second: LibraryEnds2,
 }
@@ -64,11 +75,11 @@ struct Rings {
 }
 
 /// A table and rings, of which those of notices have room for as many, with sessions that nobody has
-/// yet, and their two sides.
-pub fn make(alloc: Global, notices: u64) -> Result<(Shared, Sides), Fail>
-    requires { (0 < notices) × (notices ≤ 256) }
-    ensures linked { IfOk result (λ made. IsLinked made.0 made.1.desk) }
-    ensures ready { IfOk result (λ made. IsInOrder made.1.desk) }
+/// yet, and their two sides. The second session dials where there is a HeartBtInt.
+pub fn make(alloc: Global, notices: u64, dials: Option<u32>) -> Result<(Shared, Sides), Fail>
+    requires notices { (0 < notices) × (notices ≤ 256) }
+    requires dials { IfSome dials IsDialHeart }
+    ensures running { IfOk result (λ made. IsRunning made.0 made.1.desk) }
     ensures first { IfOk result (λ made. AreEnds made.0 0 made.1.first) }
     ensures second { IfOk result (λ made. AreEnds made.0 1 made.1.second) }
 {
@@ -83,13 +94,8 @@ pub fn make(alloc: Global, notices: u64) -> Result<(Shared, Sides), Fail>
         commands: Vec::from_array(alloc, [first.commands, second.commands])?,
         notices: Vec::from_array(alloc, [first.notices, second.notices])?,
     };
-    let desk = LibraryDesk {
-        desk: LeaseDesk::new(alloc, board(alloc)?, seat),
-        watch: Watch::new(alloc, LIBRARIES, TIMEOUT, T)?,
-        ends: Vec::from_array(alloc, [first.engine, second.engine])?,
-        cursors: Vec::from_array(alloc, [cursor(0), cursor(1)])?,
-        strays: Vec::new(alloc),
-    };
+    let ends = Vec::from_array(alloc, [first.engine, second.engine])?;
+    let desk = engine_desk(alloc, &shared, seat, ends, dials)?;
     let first = LibraryEnds2 {
         number: first_seat.number(),
         seat: first_seat,
@@ -108,6 +114,45 @@ pub fn make(alloc: Global, notices: u64) -> Result<(Shared, Sides), Fail>
         second,
     };
     Ok((shared, sides))
+}
+
+// The engine's side of a table that is new, with its ends of the rings.
+fn engine_desk(
+    alloc: Global,
+    _shared: &Shared,
+    seat: EngineSeat,
+    ends: Vec<EngineEnds>,
+    dials: Option<u32>,
+) -> Result<EngineDesk, NoMemory>
+    requires dials { IfSome dials IsDialHeart }
+    requires shape { _shared.now.leases.shape ≡ outset_shape _shared.now.leases.shape.depth _shared.now.leases.shape.sends }
+    requires depth { _shared.now.leases.shape.depth ≤ LANE_SLOTS }
+    requires seat { seat ≡ new_engine_seat _shared.now.leases }
+    requires count { length ends.items ≡ 2 }
+    requires commands { map (λ (e : EngineEnds). e.head.ring) ends.items ≡ _shared.now.commands.items }
+    requires notices { map (λ (e : EngineEnds). e.tail.ring) ends.items ≡ _shared.now.notices.items }
+    ensures { IfOk result (IsRunning _shared.now) }
+{
+    boards_stay_ready();
+    let board = board(alloc, dials)?;
+    let routes = routes(alloc, &board, dials)?;
+    let unkept = unkept(alloc, &board)?;
+    let watch = Watch::new(alloc, LIBRARIES, TIMEOUT, T)?;
+    let cursors = Vec::from_array(alloc, [cursor(0), cursor(1)])?;
+    let desk = LeaseDesk::new(alloc, board, seat);
+    let libraries = LibraryDesk {
+        desk,
+        watch,
+        ends,
+        cursors,
+        strays: Vec::new(alloc),
+    };
+    Ok(EngineDesk {
+        libraries,
+        routes,
+        unkept,
+        dialler: dialler(dials),
+    })
 }
 
 fn make_rings(alloc: Global, notices: u64) -> Result<Rings, NoMemory>
@@ -134,25 +179,129 @@ fn cursor(s: u16) -> Cursor
     Cursor { s, lease: 0, at: 0 }
 }
 
-// The sessions GATE/BUYER and GATE/SELLER, with no connection.
-fn board(alloc: Global) -> Result<Switchboard, NoMemory>
-    ensures { IfOk result IsFresh }
+// The sessions GATE/BUYER and GATE/SELLER, with no connection, of which the second may dial.
+fn board(alloc: Global, dials: Option<u32>) -> Result<Switchboard, NoMemory>
+    requires { IfSome dials IsDialHeart }
+    ensures { IfOk result (IsFresh dials) }
 {
-    boards_stay_sound();
+    boards_stay_ready();
     let mut board = Switchboard::new(alloc);
-    let first = session(alloc, b"BUYER")?;
-    let second = session(alloc, b"SELLER")?;
+    let first = session(alloc, b"BUYER", None)?;
+    let second = session(alloc, b"SELLER", dials)?;
     board.add(first)?;
     board.add(second)?;
     Ok(board)
 }
 
-fn session(alloc: Global, them: &[u8]) -> Result<SessionBook, NoMemory>
-    requires { length them.now ≤ LONGEST_NAME }
+// A session of which nothing was heard, and which dials where there is a HeartBtInt.
+fn session(alloc: Global, them: &[u8], dials: Option<u32>) -> Result<SessionBook, NoMemory>
+    requires them { length them.now ≤ LONGEST_NAME }
+    requires dials { IfSome dials IsDialHeart }
     ensures entries { IfOk result (λ made. made.book.entries ≡ []) }
     ensures leases { IfOk result (λ made. made.book.leases ≤ MOST_LEASES) }
     ensures free { IfOk result (λ made. bound_of made.book ≡ None) }
+    ensures dials { IfOk result (λ made. made.book.machine.dials ≡ dials) }
 {
     let us = Vec::from_slice(alloc, b"GATE")?;
-    SessionBook::new(alloc, us, Vec::from_slice(alloc, them)?, LEASES)
+    let them = Vec::from_slice(alloc, them)?;
+    match dials {
+        None => SessionBook::new(alloc, us, them, LEASES),
+        Some(heart) => dialling(alloc, us, them, heart),
+    }
+}
+
+// A session of which nothing was heard, and which dials.
+#[tactic(auto, unfolding(lease_core::specs::State::state_of))]
+fn dialling(alloc: Global, us: Vec<u8>, them: Vec<u8>, heart: u32) -> Result<SessionBook, NoMemory>
+    requires us { length us.items ≤ LONGEST_NAME }
+    requires them { length them.items ≤ LONGEST_NAME }
+    requires heart { IsDialHeart heart }
+    ensures entries { IfOk result (λ made. made.book.entries ≡ []) }
+    ensures leases { IfOk result (λ made. made.book.leases ≤ MOST_LEASES) }
+    ensures free { IfOk result (λ made. bound_of made.book ≡ None) }
+    ensures dials { IfOk result (λ made. made.book.machine.dials ≡ Some heart) }
+{
+    let nothing = Revival::new(alloc, LEASES)?;
+    let made = SessionBook::resume(alloc, nothing, us, them, Some(heart), 1, 0)?;
+    Ok(made)
+}
+
+// The session that dials, if one does.
+fn dialler(dials: Option<u32>) -> Option<u16>
+    ensures { result ≡ dialler_of dials }
+{
+    match dials {
+        None => None,
+        Some(_) => Some(1),
+    }
+}
+
+// The routes of the sessions that accept, the last one first.
+fn routes(alloc: Global, board: &Switchboard, dials: Option<u32>) -> Result<Routes, NoMemory>
+    requires { IsFresh dials board.now }
+    ensures routes { IfOk result (AreRoutes board.now) }
+    ensures few { IfOk result (λ routes. length routes.names.items ≤ 2) }
+{
+    let mut routes = Routes {
+        names: Vec::new(alloc),
+        sessions: Vec::new(alloc),
+    };
+    add_second_route(alloc, board, &mut routes, dials)?;
+    add_route(alloc, board, &mut routes, 0)?;
+    Ok(routes)
+}
+
+// The route of the second session, if that accepts.
+fn add_second_route(
+    alloc: Global,
+    board: &Switchboard,
+    routes: &mut Routes,
+    dials: Option<u32>,
+) -> Result<(), NoMemory>
+    requires fresh { IsFresh dials board.now }
+    requires routes { AreRoutes board.now routes.old }
+    ensures routes { OnOk result (AreRoutes board.now routes.new) }
+    ensures count { OnOk result (length routes.new.names.items ≤ length routes.old.names.items + 1) }
+{
+    match dials {
+        None => add_route(alloc, board, routes, 1),
+        Some(_) => Ok(()),
+    }
+}
+
+// The route of a session that accepts.
+fn add_route(
+    alloc: Global,
+    board: &Switchboard,
+    routes: &mut Routes,
+    s: u16,
+) -> Result<(), NoMemory>
+    requires session { s < length board.now.sessions }
+    requires accepts { (book_at board.now s).machine.dials ≡ None }
+    requires routes { AreRoutes board.now routes.old }
+    ensures routes { OnOk result (AreRoutes board.now routes.new) }
+    ensures count { OnOk result (length routes.new.names.items ≡ length routes.old.names.items + 1) }
+{
+    let names = copy(alloc, board.session(s as usize).names())?;
+    routes.names.push(names)?;
+    routes.sessions.push(s)?;
+    Ok(())
+}
+
+fn copy(alloc: Global, names: &Names) -> Result<Names, NoMemory>
+    ensures { IfOk result (λ copied. copied ≡ names.now) }
+{
+    Ok(Names {
+        us: Bytes::of(Vec::from_slice(alloc, names.us.as_slice())?),
+        them: Bytes::of(Vec::from_slice(alloc, names.them.as_slice())?),
+    })
+}
+
+// Nothing was noted of the two sessions.
+fn unkept(alloc: Global, board: &Switchboard) -> Result<Vec<Unkept>, NoMemory>
+    requires { length board.now.sessions ≡ 2 }
+    ensures { IfOk result (λ unkept. AreNoted unkept.items board.now) }
+{
+    let unkept = Vec::from_array(alloc, [Unkept::new(alloc, 0), Unkept::new(alloc, 0)])?;
+    Ok(unkept)
 }

@@ -1,21 +1,22 @@
 //! What counterparties, the engine and libraries do, as data, with what each comes to.
 
-ghost use Rattle.std.specs.Prelude.{◌≡◌, ◌<◌, ◌≤◌, OnOk};
+ghost use Rattle.std.specs.Prelude.{◌≡◌, ◌<◌, ◌≤◌, IfSome, OnOk};
 ghost use Rattle.desk_tests.specs.Outset.{AreEnds, IsOpen};
-ghost use Rattle.library_desk.specs.Serving.{IsLinked, IsInOrder};
+ghost use Rattle.desk_tests.specs.Running.{IsRunning};
+ghost use Rattle.session_core.specs.State.{IsDialHeart};
 
 use crate::application::{Application, Seen};
-use crate::counterparty::Visit;
-use crate::engine;
+use crate::engine_desk::EngineDesk;
 use crate::facts::{Fact, entries_behind, is_so};
-use crate::making::{HOLD, Sides, make};
+use crate::making::{HEART, HOLD, Sides, make};
 use crate::texts::{T, order, soh};
+use crate::{counterparty, engine};
 use gate_io::{LAST_MOMENT, NoMemory};
-use lease_core::{Entry, Reply};
+use lease_core::{Entry, Record, Reply};
 use lease_desk::LeaseDesk;
 use lease_words::Sent;
 use library_api::{LibraryEnds2, Links, Released};
-use library_desk::{LibTurn, LibraryDesk, Shared};
+use library_desk::{LibTurn, Shared};
 use session_core::Cause;
 use std::alloc::Global;
 use std::process::Abort;
@@ -28,13 +29,19 @@ pub enum Step {
     At(u64),
     // On connections, which are named by their places.
     Connect,
-    /// A body comes.
+    /// A body comes. What the session's library did is gathered before it.
     Hears(usize, &'static str),
     /// The orders from one number to another come for session 0 or 1.
     Orders(usize, u16, u64, u64),
     Ends(usize, Cause),
+    /// All that can be written is.
+    Writes(usize),
     // Of the engine.
     Gathers(u16),
+    /// A session hears the clock, which ends its connection by this cause.
+    Ticks(u16, Option<Cause>),
+    /// The session that dials is bound to the next connection, which has this number.
+    Dials(u32),
     TakesBack(u16),
     Publishes(u16),
     Serves(u8, LibTurn),
@@ -56,6 +63,9 @@ pub enum Step {
     IsDone(u8, bool),
     /// These entries came to the session's journal since the last of these steps.
     Tells(usize, &'static [Entry]),
+    /// The entries that came to the session since the last of these steps are kept with these expected
+    /// numbers.
+    Keeps(u16, &'static [u32]),
     Is(Fact),
 }
 
@@ -94,11 +104,11 @@ impl<'a> Morning<'a> {
     }
 
     /// Whether these entries came since the last call.
-    fn tells(&mut self, desk: &LibraryDesk, s: usize, wanted: &[Entry]) -> bool {
+    fn tells(&mut self, desk: &EngineDesk, s: usize, wanted: &[Entry]) -> bool {
         if s >= 2 {
             return false;
         }
-        let Some(news) = entries_behind(desk, s, self.told[s]) else {
+        let Some(news) = entries_behind(&desk.libraries, s, self.told[s]) else {
             return false;
         };
         self.told[s] = self.told[s].saturating_add(news.len());
@@ -154,22 +164,21 @@ fn reads(
 fn orders(
     alloc: Global,
     shared: &Shared,
-    desk: &mut LibraryDesk,
+    desk: &mut EngineDesk,
     k: usize,
     s: u16,
     first: u64,
     last: u64,
     at: u64,
+    until: u64,
 ) -> Result<bool, NoMemory>
-    requires linked { IsLinked shared.now desk.old }
-    requires ready { IsInOrder desk.old }
+    requires running { IsRunning shared.now desk.old }
     requires moment { at ≤ LAST_MOMENT }
-    ensures linked { OnOk result (IsLinked shared.now desk.new) }
-    ensures ready { OnOk result (IsInOrder desk.new) }
+    ensures running { OnOk result (IsRunning shared.now desk.new) }
 {
     for number in first..last.saturating_add(1) {
         let body = order(alloc, s, number)?;
-        if !engine::visit(alloc, shared, desk, Visit::Body(k, body), at)? {
+        if !counterparty::hear(alloc, shared, desk, k, body, at, until)? {
             return Ok(false);
         }
     }
@@ -180,24 +189,26 @@ fn orders(
 fn comes(
     alloc: Global,
     shared: &Shared,
-    desk: &mut LibraryDesk,
+    desk: &mut EngineDesk,
     past: u64,
     step: Step,
 ) -> Result<bool, NoMemory>
-    requires linked { IsLinked shared.now desk.old }
-    requires ready { IsInOrder desk.old }
-    ensures linked { OnOk result (IsLinked shared.now desk.new) }
-    ensures ready { OnOk result (IsInOrder desk.new) }
+    requires running { IsRunning shared.now desk.old }
+    ensures running { OnOk result (IsRunning shared.now desk.new) }
 {
     let at = moment(past);
+    let until = at.saturating_add(HOLD);
     match step {
-        Step::Orders(k, s, first, last) => orders(alloc, shared, desk, k, s, first, last, at),
-        Step::Connect => engine::visit(alloc, shared, desk, Visit::Connect, at),
+        Step::Orders(k, s, first, last) => {
+            orders(alloc, shared, desk, k, s, first, last, at, until)
+        }
+        Step::Connect => counterparty::connect(alloc, shared, desk, at),
         Step::Hears(k, text) => {
             let body = soh(alloc, text)?;
-            engine::visit(alloc, shared, desk, Visit::Body(k, body), at)
+            counterparty::hear(alloc, shared, desk, k, body, at, until)
         }
-        Step::Ends(k, cause) => engine::visit(alloc, shared, desk, Visit::End(k, cause), at),
+        Step::Ends(k, cause) => counterparty::end(shared, desk, k, cause),
+        Step::Writes(k) => engine::write(alloc, shared, desk, k),
         _ => Ok(false),
     }
 }
@@ -206,26 +217,55 @@ fn comes(
 fn does(
     alloc: Global,
     shared: &Shared,
-    desk: &mut LibraryDesk,
+    desk: &mut EngineDesk,
     past: u64,
     step: Step,
 ) -> Result<bool, NoMemory>
-    requires linked { IsLinked shared.now desk.old }
-    requires ready { IsInOrder desk.old }
-    ensures linked { OnOk result (IsLinked shared.now desk.new) }
-    ensures ready { OnOk result (IsInOrder desk.new) }
+    requires running { IsRunning shared.now desk.old }
+    ensures running { OnOk result (IsRunning shared.now desk.new) }
 {
     let at = moment(past);
     let until = at.saturating_add(HOLD);
     match step {
         Step::Gathers(s) => engine::gather(alloc, shared, desk, s, at, until),
         Step::TakesBack(s) => engine::take_back(alloc, shared, desk, s, at, until),
+        Step::Ticks(s, end) => engine::tick(alloc, shared, desk, s, end, at, until),
+        Step::Dials(number) => engine::dial(alloc, shared, desk, number, at, until),
         Step::Publishes(s) => Ok(engine::publish(shared, desk, s)),
         Step::Serves(library, turn) => {
             Ok(engine::serve(alloc, shared, desk, library, at, until)? == Some(turn))
         }
         _ => Ok(false),
     }
+}
+
+// Whether the entries that came to a session since the last call are kept with these expected numbers.
+fn keeps(
+    alloc: Global,
+    shared: &Shared,
+    desk: &mut EngineDesk,
+    s: u16,
+    expected: &[u32],
+) -> Result<bool, NoMemory>
+    requires running { IsRunning shared.now desk.old }
+    ensures running { OnOk result (IsRunning shared.now desk.new) }
+{
+    let Some(records) = engine::keep(alloc, shared, desk, s)? else {
+        return Ok(false);
+    };
+    Ok(have_expected(records.as_slice(), expected))
+}
+
+fn have_expected(records: &[Record], expected: &[u32]) -> bool {
+    if records.len() != expected.len() {
+        return false;
+    }
+    for (k, record) in records.iter().enumerate() {
+        if record.expected != expected[k] {
+            return false;
+        }
+    }
+    true
 }
 
 // The library whose step it is.
@@ -247,14 +287,12 @@ fn library_of(step: Step) -> u8 {
 fn play(
     alloc: Global,
     shared: &Shared,
-    desk: &mut LibraryDesk,
+    desk: &mut EngineDesk,
     morning: &mut Morning<'_>,
     step: Step,
 ) -> Result<bool, NoMemory>
-    requires linked { IsLinked shared.now desk.old }
-    requires ready { IsInOrder desk.old }
-    ensures linked { OnOk result (IsLinked shared.now desk.new) }
-    ensures ready { OnOk result (IsInOrder desk.new) }
+    requires running { IsRunning shared.now desk.old }
+    ensures running { OnOk result (IsRunning shared.now desk.new) }
 {
     match step {
         Step::At(past) => {
@@ -262,13 +300,16 @@ fn play(
             Ok(true)
         }
         Step::Tells(s, entries) => Ok(morning.tells(desk, s, entries)),
-        Step::Is(fact) => is_so(alloc, desk, fact),
-        Step::Connect | Step::Hears(..) | Step::Orders(..) | Step::Ends(..) => {
-            comes(alloc, shared, desk, morning.past, step)
-        }
-        Step::Gathers(_) | Step::TakesBack(_) | Step::Publishes(_) | Step::Serves(..) => {
-            does(alloc, shared, desk, morning.past, step)
-        }
+        Step::Keeps(s, expected) => keeps(alloc, shared, desk, s, expected),
+        Step::Is(fact) => is_so(alloc, &desk.libraries, fact),
+        Step::Connect | Step::Hears(..) | Step::Orders(..) | Step::Ends(..) | Step::Writes(_) =>
+            comes(alloc, shared, desk, morning.past, step),
+        Step::Gathers(_)
+        | Step::Ticks(..)
+        | Step::Dials(_)
+        | Step::TakesBack(_)
+        | Step::Publishes(_)
+        | Step::Serves(..) => does(alloc, shared, desk, morning.past, step),
         _ => match morning.library(library_of(step)) {
             Some(library) => asks(alloc, library, step),
             None => Ok(false),
@@ -281,14 +322,12 @@ fn follow_on(
     rt: &impl Abort,
     alloc: Global,
     shared: &Shared,
-    desk: &mut LibraryDesk,
+    desk: &mut EngineDesk,
     morning: &mut Morning<'_>,
     steps: &[Step],
 ) -> Result<(), NoMemory>
-    requires linked { IsLinked shared.now desk.old }
-    requires ready { IsInOrder desk.old }
-    ensures linked { OnOk result (IsLinked shared.now desk.new) }
-    ensures ready { OnOk result (IsInOrder desk.new) }
+    requires running { IsRunning shared.now desk.old }
+    ensures running { OnOk result (IsRunning shared.now desk.new) }
 {
     for step in steps {
         let is_right = play(alloc, shared, desk, morning, *step)?;
@@ -323,12 +362,19 @@ fn libraries<'a>(
     )
 }
 
-/// Makes the steps in order from the outset. Each has to come to what it says. The rings of notices have
-/// room for as many.
-pub fn follow_with(rt: &impl Abort, alloc: Global, notices: u64, steps: &[Step]) -> Result<(), Fail>
-    requires { (0 < notices) × (notices ≤ 256) }
+// Makes the steps in order from the outset. The rings of notices have room for as many, and the second
+// session dials where there is a HeartBtInt.
+fn follow_from(
+    rt: &impl Abort,
+    alloc: Global,
+    notices: u64,
+    dials: Option<u32>,
+    steps: &[Step],
+) -> Result<(), Fail>
+    requires notices { (0 < notices) × (notices ≤ 256) }
+    requires dials { IfSome dials IsDialHeart }
 {
-    let (shared, sides) = make(alloc, notices)?;
+    let (shared, sides) = make(alloc, notices, dials)?;
     let Sides {
         mut desk,
         first,
@@ -339,9 +385,22 @@ pub fn follow_with(rt: &impl Abort, alloc: Global, notices: u64, steps: &[Step])
     Ok(())
 }
 
+/// Makes the steps in order from the outset, where both sessions accept. Each has to come to what it
+/// says. The rings of notices have room for as many.
+pub fn follow_with(rt: &impl Abort, alloc: Global, notices: u64, steps: &[Step]) -> Result<(), Fail>
+    requires { (0 < notices) × (notices ≤ 256) }
+{
+    follow_from(rt, alloc, notices, None, steps)
+}
+
 /// So with room for 256 notices.
 pub fn follow(rt: &impl Abort, alloc: Global, steps: &[Step]) -> Result<(), Fail> {
     follow_with(rt, alloc, 256, steps)
+}
+
+/// So where the second session dials.
+pub fn follow_dialling(rt: &impl Abort, alloc: Global, steps: &[Step]) -> Result<(), Fail> {
+    follow_from(rt, alloc, 256, Some(HEART), steps)
 }
 
 /// A library's request, by its number, for a session from a position on.
@@ -376,7 +435,7 @@ pub fn ask_behind(
     steps: &[Step],
     asks: &[(Ask, Reply)],
 ) -> Result<(), Fail> {
-    let (shared, sides) = make(alloc, 256)?;
+    let (shared, sides) = make(alloc, 256, None)?;
     let Sides {
         mut desk,
         first,
@@ -384,6 +443,6 @@ pub fn ask_behind(
     } = sides;
     let mut morning = libraries(alloc, &shared, first, second);
     follow_on(rt, alloc, &shared, &mut desk, &mut morning, steps)?;
-    ask_on(rt, &shared, &mut desk.desk, asks)?;
+    ask_on(rt, &shared, &mut desk.libraries.desk, asks)?;
     Ok(())
 }

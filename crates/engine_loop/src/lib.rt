@@ -10,8 +10,10 @@ mod noting;
 mod reading;
 mod records;
 mod serving;
+mod starting;
 mod taking;
 mod ticking;
 
 pub use engine::Engine;
 pub use records::Taken;
+pub use starting::start;

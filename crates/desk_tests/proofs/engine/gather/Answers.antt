@@ -1,16 +1,18 @@
-use Rattle.std.proofs.Common.{List, ap, length, ◌∙◌}
-use Rattle.std.proofs.lemmas.List.{length-set}
-use Rattle.session_book.specs.Kept.{Kept}
-use Rattle.switchboard.specs.Board.{session_at}
+use Rattle.std.proofs.Common.{[], ◌∷◌, refl}
+use Rattle.lease_desk.specs.Desk.{bodies_of}
+use Rattle.switchboard.specs.Happenings.{reserves, shows}
+use Rattle.desk_tests.proofs.RunningLemmas.{Laws, RunLaws, keeps_notes, reaches}
 use Rattle.desk_tests.proofs.engine.gather.Goals as goal
 
-pub returns-clause-ready : goal.returns-clause-ready
-returns-clause-ready c =
-    let old = c.args.desk.now in
-    let new = c.gather.new.self in
-    let others = c.in_ok-gather.ensures.gathers.others in
-    let count = ap (λ (sessions : List Kept). length sessions) others.sessions ∙ length-set old.desk.board.sessions c.args.s (session_at new.board c.args.s) in
+pub returns : goal.returns
+returns c =
+    let laws : Laws = record { routes = c.sessions_proceed.ensures.routes; noted = c.sessions_proceed.ensures.noted; cursors = c.cursors_stay.ensures.boards } in
+    let runs : RunLaws = record { ready = c.boards_stay_ready.ensures.run; goes_on = c.boards_go_on.ensures.run } in
+    let was = c.args.desk.now in
+    let gathers = c.in_ok-gather.ensures.gathers in
+    let happenings = reserves c.args.s ∷ shows c.args.s gathers.word (bodies_of gathers.items) c.args.at c.args.until ∷ [] in
     record {
-      in_step = c.gather.ensures.in_step c.requires.ready.in_step;
-      cursors = c.cursors_stay.ensures.boards old.desk.board new.board old.cursors.items count c.gather.ensures.goes_on c.requires.ready.cursors;
+      running = keeps_notes laws c.args.shared.now was _ refl refl refl refl
+          (reaches runs happenings was.libraries.desk c.gather.new.self gathers.reaches (c.gather.ensures.in_step c.requires.running.steady.in_step) c.gather.ensures.goes_on c.gather.ensures.table c.requires.running.steady)
+          c.requires.running;
     }

@@ -1,5 +1,5 @@
-use Rattle.library_desk.specs.Serving.{IsInOrder, IsLinked}
+use Rattle.desk_tests.specs.Running.{IsRunning}
 use Rattle.desk_tests.proofs.steps.orders.Given as goal
 
 abbrev pub invariant-loop-number : goal.invariant-loop-number
-invariant-loop-number l = record { linked : IsLinked l.shared l.desk; ready : IsInOrder l.desk }
+invariant-loop-number l = IsRunning l.shared l.desk

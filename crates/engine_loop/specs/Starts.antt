@@ -1,0 +1,56 @@
+-- What an engine begins with beside what its libraries have.
+use Rattle.std.specs.Prelude.{◌≡◌, ℕ, false, List, [], length, map, replicate}
+use Rattle.std.specs.List.{filter, range_with_len}
+use Rattle.std.specs.Option.{is_none}
+use Rattle.connection_core.specs.declared.limits.TheConstants.{MOST_READ}
+use Rattle.engine_config.specs.Config.{dial_of, names_of}
+use Rattle.engine_config.specs.declared.config.Config.{Config}
+use Rattle.engine_loop.specs.declared.engine.Engine.{Engine}
+use Rattle.library_desk.specs.declared.desk.LibraryDesk.{LibraryDesk}
+use Rattle.session_desk.specs.Steps.{nothing_noted}
+use Rattle.session_desk.specs.declared.routes.Routes.{Routes}
+use Rattle.wire_desk.specs.declared.desk.WireDesk.{WireDesk}
+use Rattle.wire_desk.specs.declared.dialling.Dialler.{Dialler}
+
+-- the sessions of an engine, with their leases and libraries
+abbrev pub library_desk_of : Engine → LibraryDesk
+library_desk_of e = e.sessions
+
+-- and its connections at the wire
+abbrev pub wire_desk_of : Engine → WireDesk
+wire_desk_of e = e.lines
+
+-- and the dials that are due
+abbrev pub dialler_of : Engine → Dialler
+dialler_of e = e.dialler
+
+-- those of the first sessions that accept, in order
+abbrev pub accepting_sessions : Config → ℕ → List ℕ
+accepting_sessions config count = filter (λ s. is_none (dial_of config s)) (range_with_len 0 count)
+
+-- Of the first sessions those that accept have a route each, by their names.
+pub record StartsRoutes (config : Config) (count : ℕ) (routes : Routes) : Type 0 where
+  pub sessions : routes.sessions.items ≡ accepting_sessions config count
+  pub names : routes.names.items ≡ map (names_of config) (accepting_sessions config count)
+
+-- There is no connection, and no entry of a session was noted.
+pub record StartsLines (config : Config) (w : WireDesk) : Type 0 where
+  pub unkept : w.unkept.items ≡ replicate (length config.names) nothing_noted
+  pub accepted : w.accepted.items ≡ []
+  pub dialled : w.dialled.items ≡ []
+  pub buffer : length w.buffer.items ≡ MOST_READ
+
+-- Each session that dials may do so at once, and no dial was made.
+pub record StartsDials (config : Config) (d : Dialler) : Type 0 where
+  pub plans : d.plans.items ≡ config.dialled
+  pub next : d.next.items ≡ replicate (length config.dialled) 0
+  pub made : d.made ≡ 0
+  pub most : d.most ≡ config.dials
+
+-- The limits are those that are configured, and no turn was made.
+pub record StartsFigures (config : Config) (at : ℕ) (e : Engine) : Type 0 where
+  pub connections : e.connections ≡ config.connections
+  pub accepted : e.accepted ≡ 0
+  pub hold : e.hold ≡ config.hold
+  pub moment : e.moment ≡ at
+  pub failed : e.failed ≡ false
