@@ -16,7 +16,7 @@ use Rattle.session_core.specs.declared.causes.Cause.{Cause}
 use Rattle.session_desk.specs.Steps.{Ticks, noted}
 use Rattle.switchboard.specs.Board.{connection_at}
 use Rattle.wire_desk.specs.Dials.{DialsAs}
-use Rattle.wire_desk.specs.Places.{open_places}
+use Rattle.wire_desk.specs.Places.{dialled_behind, listed_behind, open_places}
 use Rattle.wire_desk.specs.Steps.{AcceptsAs, Reads, sessions_of}
 
 -- a turn begins: its moment is the clock's reading, or that of the turn before where that is later
@@ -33,6 +33,8 @@ accepted_after Failed count = count
 pub record AsksForConnection (answer : Accepted) (old new : Engine) : Type 0 where
   pub due : old.accepted < old.connections
   pub accepts : AcceptsAs answer old.moment old.sessions.desk new.sessions.desk
+  pub lines : new.lines ≡ record (old.lines) { accepted = new.lines.accepted }
+  pub listed : new.lines.accepted.items ≡ listed_behind answer (length old.sessions.desk.board.connections) old.lines.accepted.items
   pub counted : new.accepted ≡ accepted_after answer old.accepted
   pub rest : new ≡ record old { sessions = record (old.sessions) { desk = new.sessions.desk }; lines = new.lines; accepted = new.accepted }
 
@@ -48,6 +50,7 @@ pub record DialsSession (s : ℕ) (old new : Engine) : Type 0 where
   pub answer : Option Dialled
   pub dials : DialsAs answer s old.moment (until_of old) old.sessions.desk new.sessions.desk old.dialler new.dialler
   pub lines : new.lines ≡ record (old.lines) { dialled = new.lines.dialled }
+  pub listed : new.lines.dialled.items ≡ dialled_behind answer (length old.sessions.desk.board.connections) old.lines.dialled.items
   pub rest : new ≡ record old { sessions = record (old.sessions) { desk = new.sessions.desk }; lines = new.lines; dialler = new.dialler }
 
 -- a session is gathered, and hears the clock

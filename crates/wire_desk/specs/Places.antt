@@ -1,7 +1,23 @@
 -- Which connections aren't closed.
-use Rattle.std.specs.Prelude.{ℕ, List, ◌++◌}
+use Rattle.std.specs.Prelude.{ℕ, List, [], ◌∷◌, ◌++◌, Option, None, Some}
+use Rattle.gate_io.specs.declared.dials.Dialled.{Dialled}
+use Rattle.gate_io.specs.declared.dials.Dialled.TheVariants as dial
+use Rattle.gate_io.specs.declared.wires.Accepted.{Accepted}
+use Rattle.gate_io.specs.declared.wires.Accepted.TheVariants as accept
 use Rattle.wire_desk.specs.declared.desk.WireDesk.{WireDesk}
 
 -- the places of those that were accepted, and behind them of those that were dialled
 abbrev pub open_places : WireDesk → List ℕ
 open_places w = w.accepted.items ++ w.dialled.items
+
+-- a connection that was accepted is listed last, by its place
+abbrev pub listed_behind : Accepted → ℕ → List ℕ → List ℕ
+listed_behind (accept.New number) place places = places ++ place ∷ []
+listed_behind accept.Nothing place places = places
+listed_behind accept.Failed place places = places
+
+-- and so is one that was dialled
+abbrev pub dialled_behind : Option Dialled → ℕ → List ℕ → List ℕ
+dialled_behind None place places = places
+dialled_behind (Some dial.Failed) place places = places
+dialled_behind (Some (dial.New number)) place places = places ++ place ∷ []

@@ -11,7 +11,7 @@ ghost use Rattle.switchboard.specs.Board.{connection_at};
 ghost use Rattle.switchboard.specs.Going.{GoesOnTo};
 ghost use Rattle.switchboard.specs.Happenings.{Happens, IsNewNumber, accepts};
 ghost use Rattle.wire_desk.specs.Lines.{IsSetUp, IsWired};
-ghost use Rattle.wire_desk.specs.Places.{open_places};
+ghost use Rattle.wire_desk.specs.Places.{listed_behind, open_places};
 ghost use Rattle.wire_desk.specs.Steps.{AcceptsAs};
 
 use crate::desk::WireDesk;
@@ -43,7 +43,9 @@ impl WireDesk {
         ensures set_up { OnOk result (IsSetUp leases.now desk.new self.new) }
         ensures wired { OnOk result (IsWired desk.new.board (open_places self.new) (W.door wire.new) (W.link wire.new)) }
         ensures agree { AllAgree desk.new.board desk.new.seat }
-        ensures unkept { self.new.unkept ≡ self.old.unkept }
+        ensures exact { IfOk result (λ accepted. W.accept_gives wire.old accepted wire.new) }
+        ensures rest { self.new ≡ record self.old { accepted = self.new.accepted } }
+        ensures listed { IfOk result (λ accepted. self.new.accepted.items ≡ listed_behind accepted (length desk.old.board.connections) self.old.accepted.items) }
     {
         lines_progress();
         self.accepted.reserve(1)?;

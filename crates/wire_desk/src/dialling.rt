@@ -10,7 +10,7 @@ ghost use Rattle.switchboard.specs.Board.{Board};
 ghost use Rattle.switchboard.specs.Going.{GoesOnTo};
 ghost use Rattle.wire_desk.specs.Dials.{DialsAs, IsDialDue, IsDialling, WaitsBy, plan_at};
 ghost use Rattle.wire_desk.specs.Lines.{IsSetUp, IsWired};
-ghost use Rattle.wire_desk.specs.Places.{open_places};
+ghost use Rattle.wire_desk.specs.Places.{dialled_behind, open_places};
 ghost use Rattle.wire_desk.specs.declared.dialling.Dialler.{Dialler};
 
 use crate::desk::WireDesk;
@@ -68,6 +68,7 @@ impl Dialler {
         ensures dialling { OnOk result (IsDialling desk.new.board (W.door wire.new) self.new) }
         ensures agree { AllAgree desk.new.board desk.new.seat }
         ensures lines { lines.new ≡ record lines.old { dialled = lines.new.dialled } }
+        ensures listed { IfOk result (λ answer. lines.new.dialled.items ≡ dialled_behind answer (length desk.old.board.connections) lines.old.dialled.items) }
     {
         lines_progress();
         dialling_goes_on();

@@ -54,6 +54,7 @@ impl WireDesk {
         ensures wired { OnOk result (IsWired desk.new.board (open_places self.new) (W.door wire.new) (W.link wire.new)) }
         ensures progresses { OnOk result (Progresses k desk.old.board desk.new.board) }
         ensures agree { AllAgree desk.new.board desk.new.seat }
+        ensures exact { IfOk result (λ got. W.read_gives wire.old (connection_at desk.old.board k).number MOST_READ got wire.new) }
         ensures rest { self.new ≡ record self.old { unkept = self.new.unkept; buffer = self.new.buffer } }
     {
         lines_progress();
