@@ -77,9 +77,10 @@ WireGotWithin room got.Blocked = Unit {0}
 WireGotWithin room got.Failed = Unit {0}
 
 -- Where the bytes that are left are told, a read takes the first of them and puts them at the buffer's front,
--- the end comes only with nothing left, and a block or a failure takes nothing.
+-- the end comes only with nothing left, and a block or a failure takes nothing. Where they aren't told, they aren't
+-- told later.
 abbrev pub WireGivesFrom : Option (List ℕ) → WireGot → List ℕ → Option (List ℕ) → Type 0
-WireGivesFrom None result buf after = Unit {0}
+WireGivesFrom None result buf after = after ≡ None
 WireGivesFrom (Some left) (got.Bytes n) buf after = (n ≤ length left) × (take n buf ≡ take n left) × (after ≡ Some (drop n left))
 WireGivesFrom (Some left) got.End buf after = (left ≡ []) × (after ≡ Some [])
 WireGivesFrom (Some left) got.Blocked buf after = after ≡ Some left
@@ -99,9 +100,9 @@ WireWroteWithin len wrote.Blocked = Unit {0}
 WireWroteWithin len wrote.Failed = Unit {0}
 
 -- Where the bytes that were written are told, a write puts the first of the piece behind them, and a block or a
--- failure nothing.
+-- failure nothing. Where they aren't told, they aren't told later.
 abbrev pub WireTakesFrom : Option (List ℕ) → WireWrote → List ℕ → Option (List ℕ) → Type 0
-WireTakesFrom None result piece after = Unit {0}
+WireTakesFrom None result piece after = after ≡ None
 WireTakesFrom (Some written) (wrote.Bytes n) piece after = after ≡ Some (written ++ take n piece)
 WireTakesFrom (Some written) wrote.Blocked piece after = after ≡ Some written
 WireTakesFrom (Some written) wrote.Failed piece after = after ≡ Some written

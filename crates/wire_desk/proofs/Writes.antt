@@ -26,10 +26,10 @@ untold_on None text none = tt
 untold_on (Some bytes) text none = absurd (cc none)
 
 -- the wire took the next n bytes
-pub took_on : (before after : Option (List ℕ)) (out : Outgoing) (limit n : ℕ) → (before ≡ None → after ≡ None) → n ≤ length (take limit (waiting_text out)) → WireTakesFrom before (wrote.Bytes n) (take limit (waiting_text out)) after
+pub took_on : (before after : Option (List ℕ)) (out : Outgoing) (limit n : ℕ) → n ≤ length (take limit (waiting_text out)) → WireTakesFrom before (wrote.Bytes n) (take limit (waiting_text out)) after
     → IfSome before (λ bytes. bytes ≡ written_text out) → IfSome after (λ bytes. bytes ≡ written_text (after_writing n out))
-took_on None after out limit n untold within takes was = untold_on after (written_text (after_writing n out)) (untold refl)
-took_on (Some bytes) after out limit n untold within takes was =
+took_on None after out limit n within takes was = untold_on after (written_text (after_writing n out)) takes
+took_on (Some bytes) after out limit n within takes was =
     let few : n ≤ limit = omega (arith, length-take limit (waiting_text out)) in
     let piece : take n (take limit (waiting_text out)) ≡ take n (waiting_text out) = take-take n limit (waiting_text out) few in
     let text : take (out.written + n) out.text ≡ take out.written out.text ++ take n (drop out.written out.text) = take-add out.written n out.text in
@@ -43,12 +43,12 @@ IsNoTake wrote.Blocked = Unit {0}
 IsNoTake wrote.Failed = Unit {0}
 
 -- it took nothing
-pub took_none : (answer : WireWrote) (before after : Option (List ℕ)) (piece text : List ℕ) → IsNoTake answer → (before ≡ None → after ≡ None) → WireTakesFrom before answer piece after
+pub took_none : (answer : WireWrote) (before after : Option (List ℕ)) (piece text : List ℕ) → IsNoTake answer → WireTakesFrom before answer piece after
     → IfSome before (λ bytes. bytes ≡ text) → IfSome after (λ bytes. bytes ≡ text)
-took_none answer None after piece text none untold takes was = untold_on after text (untold refl)
-took_none wrote.Blocked (Some bytes) after piece text none untold takes was = subst (λ (w : Option (List ℕ)). IfSome w (λ bytes. bytes ≡ text)) (sym takes) was
-took_none wrote.Failed (Some bytes) after piece text none untold takes was = subst (λ (w : Option (List ℕ)). IfSome w (λ bytes. bytes ≡ text)) (sym takes) was
-took_none (wrote.Bytes n) (Some bytes) after piece text none untold takes was = absurd none
+took_none answer None after piece text none takes was = untold_on after text takes
+took_none wrote.Blocked (Some bytes) after piece text none takes was = subst (λ (w : Option (List ℕ)). IfSome w (λ bytes. bytes ≡ text)) (sym takes) was
+took_none wrote.Failed (Some bytes) after piece text none takes was = subst (λ (w : Option (List ℕ)). IfSome w (λ bytes. bytes ≡ text)) (sym takes) was
+took_none (wrote.Bytes n) (Some bytes) after piece text none takes was = absurd none
 
 -- the ends behind more bytes are those of the ends behind fewer
 pub ends_further : (first second : ℕ) (ends : List ℕ) → first ≤ second → ends_behind second (ends_behind first ends) ≡ ends_behind second ends

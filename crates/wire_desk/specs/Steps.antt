@@ -11,7 +11,6 @@ use Rattle.gate_io.specs.declared.wires.Accepted.{Accepted}
 use Rattle.gate_io.specs.declared.wires.Accepted.TheVariants as accept
 use Rattle.gate_io.specs.declared.wires.WireGot.{WireGot}
 use Rattle.gate_io.specs.declared.wires.WireGot.TheVariants as got
-use Rattle.gate_io.specs.declared.wires.WireWrote.{WireWrote}
 use Rattle.lease_desk.specs.Desk.{GoesOn, InTurn}
 use Rattle.lease_desk.specs.declared.desk.LeaseDesk.{LeaseDesk}
 use Rattle.session_book.specs.Records.{Pending}
@@ -200,10 +199,6 @@ cause_behind stop c = unless_ended c.cause (cause_by stop c)
 abbrev pub PartsIfNeeded : Option Cause → ℕ → Board → Board → Type 0
 PartsIfNeeded None k old new = new ≡ old
 PartsIfNeeded (Some cause) k old new = Happens (parting (connection_at old k).session k cause) old new
-
--- a wire that doesn't tell what was written of a connection doesn't tell it later
-abbrev pub StaysUntold : {S : Type 0} → (S → ℕ → Link) → (S → ℕ → List ℕ → WireWrote → S → Type 0) → Type 0
-StaysUntold {S} link exact = (old new : S) (c : ℕ) (piece : List ℕ) (answer : WireWrote) → exact old c piece answer new → (link old c).written ≡ None → (link new c).written ≡ None
 
 -- what came of one write
 abbrev pub WritesOnce : ℕ → ℕ → Wrote → Link → Link → Board → Board → Type 0

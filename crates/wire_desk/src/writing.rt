@@ -10,7 +10,7 @@ ghost use Rattle.switchboard.specs.Board.{connection_at};
 ghost use Rattle.switchboard.specs.Going.{IsWrittenAsBefore};
 ghost use Rattle.wire_desk.specs.Lines.{IsOpenPlace, IsSetUp, IsWired, TookWhatIsWritten, standing, stands_at};
 ghost use Rattle.wire_desk.specs.Places.{open_places};
-ghost use Rattle.wire_desk.specs.Steps.{AreApart, AreOnWire, AreOpenFrom, GoesOnWriting, HasStopped, NameSessions, PartsIfNeeded, PreparesTo, Progresses, ProgressesUnread, ProgressesWriting, StaysUntold, Writes, WritesInTurn, WritesOnce, WritesSome, cause_behind, sessions_of, written_so_far};
+ghost use Rattle.wire_desk.specs.Steps.{AreApart, AreOnWire, AreOpenFrom, GoesOnWriting, HasStopped, NameSessions, PartsIfNeeded, PreparesTo, Progresses, ProgressesUnread, ProgressesWriting, Writes, WritesInTurn, WritesOnce, WritesSome, cause_behind, sessions_of, written_so_far};
 
 use crate::desk::WireDesk;
 use crate::laws::lines_progress;
@@ -43,7 +43,6 @@ impl WireDesk {
         requires named { NameSessions desk.old.board }
         requires on_wire { AreOnWire desk.old.board (W.door wire.old) (W.link wire.old) }
         requires open_place { IsOpenPlace desk.old.board (W.link wire.old) k }
-        requires untold { StaysUntold W.link W.write_gives }
         ensures writes { IfOk result (λ written. Writes written k (W.link wire.old (connection_at desk.old.board k).number) (W.link wire.new (connection_at desk.old.board k).number)
             (sessions_of desk.old self.now.unkept.items) (sessions_of desk.new self.now.unkept.items)) }
         ensures goes_on { LinkGoesOn (W.link wire.old (connection_at desk.old.board k).number) (W.link wire.new (connection_at desk.old.board k).number) }
@@ -80,7 +79,6 @@ impl WireDesk {
         requires wired { IsWired desk.old.board (open_places self.old) (W.door wire.old) (W.link wire.old) }
         requires apart { AreApart (open_places self.old) }
         requires few { length (open_places self.old) ≤ MOST_CONNECTIONS + MOST_DIALLED }
-        requires untold { StaysUntold W.link W.write_gives }
         ensures writes { IfOk result (λ bytes. WritesInTurn (open_places self.old) (length (open_places self.old))
             (written_so_far desk.old self.old.unkept.items (W.link wire.old) 0) (written_so_far desk.new self.old.unkept.items (W.link wire.new) bytes)) }
         ensures door { W.door wire.new ≡ W.door wire.old }
@@ -112,7 +110,6 @@ impl WireDesk {
         requires open_places { AreOpenFrom 0 desk.old.board (W.link wire.old) (open_places self.now) }
         requires apart { AreApart (open_places self.now) }
         requires few { length (open_places self.now) ≤ MOST_CONNECTIONS + MOST_DIALLED }
-        requires untold { StaysUntold W.link W.write_gives }
         ensures writes { IfOk result (λ bytes. WritesInTurn (open_places self.now) (length (open_places self.now))
             (written_so_far desk.old self.now.unkept.items (W.link wire.old) 0) (written_so_far desk.new self.now.unkept.items (W.link wire.new) bytes)) }
         ensures door { W.door wire.new ≡ W.door wire.old }
@@ -185,7 +182,6 @@ fn write_all<W: Wire>(desk: &mut LeaseDesk, wire: &mut W, k: usize) -> Written
     requires steady { IsSteady desk.old.board desk.old.seat }
     requires connection { k < length desk.old.board.connections }
     requires open_still { IsOpen (W.door wire.old) (W.link wire.old) (connection_at desk.old.board k).number }
-    requires untold { StaysUntold W.link W.write_gives }
     requires written { TookWhatIsWritten (W.link wire.old (connection_at desk.old.board k).number) (connection_at desk.old.board k) }
     ensures writes { WritesSome k result.bytes desk.old.board desk.new.board }
     ensures most { result.bytes ≤ MOST_WRITTEN }
@@ -217,7 +213,6 @@ fn write_once<W: Wire>(desk: &mut LeaseDesk, wire: &mut W, k: usize, limit: usiz
     requires steady { IsSteady desk.old.board desk.old.seat }
     requires connection { k < length desk.old.board.connections }
     requires open_still { IsOpen (W.door wire.old) (W.link wire.old) (connection_at desk.old.board k).number }
-    requires untold { StaysUntold W.link W.write_gives }
     requires written { TookWhatIsWritten (W.link wire.old (connection_at desk.old.board k).number) (connection_at desk.old.board k) }
     requires some { 0 < limit }
     ensures writes { WritesOnce limit k result (W.link wire.old (connection_at desk.old.board k).number) (W.link wire.new (connection_at desk.old.board k).number) desk.old.board desk.new.board }

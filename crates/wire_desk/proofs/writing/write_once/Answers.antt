@@ -21,8 +21,7 @@ returns-in-Bytes-clause-written g c =
     subst (λ (p : List ℕ). WireTakesFrom before (wrote.Bytes c.in-Bytes.n) p after) piece c.in-Bytes.ensures.content in
     let within : c.in-Bytes.n ≤ length (take c.args.limit (waiting_text old.out.outgoing)) = subst (λ (p : List ℕ). c.in-Bytes.n ≤ length p) piece c.in-Bytes.ensures.within.1 in
     let was : IfSome before (λ bytes. bytes ≡ written_text old.out.outgoing) = subst (λ n. TookWhatIsWritten (g.W.Wire.link c.args.wire.now n) old) (sym number) c.requires.written in
-    let untold = c.requires.untold c.args.wire.now c.write.new.self c.number.result c.waiting-piece.result.now c.write.result c.write.ensures.exact in
-    let now = took_on before after old.out.outgoing c.args.limit c.in-Bytes.n untold within takes was in
+    let now = took_on before after old.out.outgoing c.args.limit c.in-Bytes.n within takes was in
     subst (λ n. TookWhatIsWritten (g.W.Wire.link c.write.new.self n) (connection_at c.wrote.new.self c.args.k)) number
     (subst (λ (o : Outgoing). IfSome after (λ bytes. bytes ≡ written_text o)) (sym c.wrote.ensures.outgoing) now)
 
@@ -43,15 +42,13 @@ returns-in-Blocked-clause-written g c =
     let old = connection_at c.args.desk.now.board c.args.k in
     let number : c.number.result ≡ old.number = c.number.ensures ∙ ap (λ (x : ConnectionState). x.number) c.connection-connection.ensures in
     let was = subst (λ n. TookWhatIsWritten (g.W.Wire.link c.args.wire.now n) old) (sym number) c.requires.written in
-    let untold = c.requires.untold c.args.wire.now c.write.new.self c.number.result c.waiting-piece.result.now c.write.result c.write.ensures.exact in
     subst (λ n. TookWhatIsWritten (g.W.Wire.link c.write.new.self n) old) number
-    (took_none wrote.Blocked (g.W.Wire.link c.args.wire.now c.number.result).written (g.W.Wire.link c.write.new.self c.number.result).written c.waiting-piece.result.now (written_text old.out.outgoing) tt untold c.in-Blocked.ensures.content was)
+    (took_none wrote.Blocked (g.W.Wire.link c.args.wire.now c.number.result).written (g.W.Wire.link c.write.new.self c.number.result).written c.waiting-piece.result.now (written_text old.out.outgoing) tt c.in-Blocked.ensures.content was)
 
 pub returns-in-Failed-clause-written : goal.returns-in-Failed-clause-written
 returns-in-Failed-clause-written g c =
     let old = connection_at c.args.desk.now.board c.args.k in
     let number : c.number.result ≡ old.number = c.number.ensures ∙ ap (λ (x : ConnectionState). x.number) c.connection-connection.ensures in
     let was = subst (λ n. TookWhatIsWritten (g.W.Wire.link c.args.wire.now n) old) (sym number) c.requires.written in
-    let untold = c.requires.untold c.args.wire.now c.write.new.self c.number.result c.waiting-piece.result.now c.write.result c.write.ensures.exact in
     subst (λ n. TookWhatIsWritten (g.W.Wire.link c.write.new.self n) old) number
-    (took_none wrote.Failed (g.W.Wire.link c.args.wire.now c.number.result).written (g.W.Wire.link c.write.new.self c.number.result).written c.waiting-piece.result.now (written_text old.out.outgoing) tt untold c.in-Failed.ensures.content was)
+    (took_none wrote.Failed (g.W.Wire.link c.args.wire.now c.number.result).written (g.W.Wire.link c.write.new.self c.number.result).written c.waiting-piece.result.now (written_text old.out.outgoing) tt c.in-Failed.ensures.content was)
