@@ -24,6 +24,10 @@ pub none_is : {T : Type 0} (o : Option T) → IsNone o → o ≡ None
 none_is None is = refl
 none_is (Some x) is = absurd (false≢true (sym is))
 
+-- a session that was there is there
+there : {old new s j : ℕ} → new ≡ old → s ≡ j → s < old → j < new
+there {old} {new} {s} {j} stays same within = subst (λ n. j < n) (sym stays) (subst (λ i. i < old) same within)
+
 -- the names of a session stay as they are
 pub same_names : (old new : Board) (s : ℕ) → IsSameSession (book_at old s) (book_at new s) → names_at old s ≡ names_at new s
 same_names old new s same = ap (λ names. record { us = names.us; them = names.them }) (sym same.names)
@@ -65,6 +69,7 @@ module _ (before : ℕ → List Entry) (s : ℕ) (old new : Board) (goes : Sessi
       entries = λ within. keeps.entries;
       lines_there = λ i within other. (subst (λ cs. i < length cs) same within, ap (λ cs. get_or cs i no_connection) same);
       number = λ i within other own. absurd (omega arith);
+      named = λ j within names. absurd (omega arith);
       text = λ j within names. absurd (omega arith);
       texts = λ i within other names was. text_aside i (λ e. none_some _ (sym free ∙ e)) was;
       silent = λ within none. absurd (omega arith);
@@ -106,6 +111,7 @@ module _ (before : ℕ → List Entry) (s : ℕ) (old new : Board) (goes : Sessi
         entries = λ within. keeps.entries;
         lines_there = λ i within other. (subst (λ n. i < n) connections_stay within, lines_there i other);
         number = λ i within other own same. other (is.numbers i k within plugged.within (sym same ∙ (line_stays k).number));
+        named = λ j within names. there sessions_stay (same_number s j (sym plugged.names ∙ sym (line_stays k).session ∙ names)) goes.within;
         text = λ j within names. subst (λ n. HasTextOf before new n k) (same_number s j (sym plugged.names ∙ sym (line_stays k).session ∙ names)) text_here;
         texts = λ i within other names was. text_aside i (λ e. other (is.numbers i k within plugged.within (sym (same_number _ _ (sym plugged.bound ∙ e))))) was;
         silent = λ within none. absurd (none_some s (sym none ∙ (line_stays k).session ∙ plugged.names));
@@ -139,6 +145,7 @@ module _ (before : ℕ → List Entry) (k : ℕ) (c : ConnectionState) (board : 
         entries = λ small. absurd (omega arith);
         lines_there = λ i small other. (subst (λ n. i < n) (length-set board.connections k c) small, get_or-set_other board.connections k i c no_connection other);
         number = λ i small other own same. other (is.numbers i k small within (sym same ∙ ap (λ (x : ConnectionState). x.number) here ∙ number));
+        named = λ j small names. is.named j k within (names_here (Some j) names);
         text = λ j small names.
             let named = names_here (Some j) names in
             subst (λ (x : ConnectionState). IsTextOf (names_at board j) (before j) x.number (book_at board j) x.out.outgoing) (sym here)
@@ -195,6 +202,7 @@ module _ (g : TextLaws) (before : ℕ → List Entry) (s k : ℕ) (body : List �
             line_there s k (Some k) old new binds.within binds.connection_within binds.plugged sound i other,
           );
           number = λ i within other own same. other (is.numbers i k within binds.connection_within (sym same ∙ bind_number));
+          named = λ j within names. there (plug_sessions s k (Some k) old new binds.within binds.connection_within binds.plugged sound) (same_number s j (sym bind_names ∙ names)) binds.within;
           text = λ j within names. subst (λ n. HasTextOf before new n k) (same_number s j (sym bind_names ∙ names)) bind_text;
           texts = λ i within other names was.
               opens.others (names_at new s) (before s) (connection_at old i).number (connection_at old i).out.outgoing (λ e. other (is.numbers i k within binds.connection_within (sym e)))
@@ -250,6 +258,7 @@ module _ (g : TextLaws) (before : ℕ → List Entry) (s k : ℕ) (cause : Cause
           line_there s k None old new ends.within end_within ends.unplugged sound i other,
         );
         number = λ i within other own same. other (is.numbers i k within end_within (sym same ∙ end_number));
+        named = λ j within names. there (plug_sessions s k None old new ends.within end_within ends.unplugged sound) (same_number s j (sym end_names ∙ names)) ends.within;
         text = λ j within names.
             subst (λ n. HasTextOf before new n k) (same_number s j (sym end_names ∙ names))
             (subst (λ c. IsTextOf (names_at new s) (before s) c (book_at new s) (connection_at new k).out.outgoing) (sym end_number)
@@ -325,6 +334,7 @@ module _ (g : TextLaws) (before : ℕ → List Entry) (s number at : ℕ) (old n
           entries = λ within. dial_opens.entries;
           lines_there = dial_line;
           number = λ i within other own same. dials.new_number i within (sym same ∙ ap (λ (c : ConnectionState). c.number) dialled);
+          named = λ j within told. there dial_sessions (same_number s j (sym names ∙ told)) dials.within;
           text = λ j within told. subst (λ n. HasTextOf before new n k) (same_number s j (sym names ∙ told)) dial_text;
           texts = λ i within other told was.
               dial_opens.others (names_at new s) (before s) (connection_at old i).number (connection_at old i).out.outgoing (λ e. dials.new_number i within (sym e))
@@ -352,6 +362,7 @@ module _ (before : ℕ → List Entry) (c : ConnectionState) (board : Board) (un
         entries = λ small. absurd (omega arith);
         lines_there = accept_line;
         number = λ i within other own same. new_number i within (sym same ∙ ap (λ (x : ConnectionState). x.number) here);
+        named = λ j within names. absurd (none_some j (sym unbound ∙ ap (λ (x : ConnectionState). x.session) (sym here) ∙ names));
         text = λ j within names. absurd (none_some j (sym unbound ∙ ap (λ (x : ConnectionState). x.session) (sym here) ∙ names));
         texts = λ i within other names was. was;
         silent = λ within none. ap (λ (x : ConnectionState). x.out.outgoing) here ∙ none_waits;

@@ -194,6 +194,7 @@ first_ready before board first = record {
   books = first.books;
   entries = λ s within. record { added = []; are = first.entries s within ∙ sym (append-nil (before s)) };
   on = λ s k within at. absurd (none_some k (sym (first.unplaced s within) ∙ at));
+  named = λ s k within names. absurd (no_connections board k first.connections within);
   numbers = λ j k within_j within_k same. absurd (no_connections board j first.connections within_j);
   texts = λ s k within names. absurd (no_connections board k first.connections within);
   silent = λ k within none. absurd (no_connections board k first.connections within);

@@ -36,17 +36,18 @@ pub record IsNearly (before : ℕ → List Entry) (board : Board) : Type 0 where
   pub sound : IsSound board
   pub books : (s : ℕ) → s < length board.sessions → IsLawful (book_at board s)
   pub entries : (s : ℕ) → s < length board.sessions → GoOnFrom (before s) (book_at board s).entries
+  pub named : (s k : ℕ) → k < length board.connections → (connection_at board k).session ≡ Some s → s < length board.sessions
   pub numbers : (j k : ℕ) → j < length board.connections → k < length board.connections → (connection_at board j).number ≡ (connection_at board k).number → j ≡ k
   pub texts : (s k : ℕ) → k < length board.connections → (connection_at board k).session ≡ Some s → HasTextOf before board s k
   pub silent : (k : ℕ) → k < length board.connections → (connection_at board k).session ≡ None → (connection_at board k).out.outgoing ≡ no_outgoing
 
 pub nearly : (before : ℕ → List Entry) (board : Board) → IsReady before board → IsNearly before board
 nearly before board ready =
-    record { sound = ready.sound; books = ready.books; entries = ready.entries; numbers = ready.numbers; texts = ready.texts; silent = ready.silent }
+    record { sound = ready.sound; books = ready.books; entries = ready.entries; named = ready.named; numbers = ready.numbers; texts = ready.texts; silent = ready.silent }
 
 pub with_on : (before : ℕ → List Entry) (board : Board) → IsNearly before board → AreOn board → IsReady before board
 with_on before board is on =
-    record { sound = is.sound; books = is.books; entries = is.entries; on = on; numbers = is.numbers; texts = is.texts; silent = is.silent }
+    record { sound = is.sound; books = is.books; entries = is.entries; on = on; named = is.named; numbers = is.numbers; texts = is.texts; silent = is.silent }
 
 -- the session and the connection change, where there are such ones, in a way that keeps what holds of them
 pub record Turns (before : ℕ → List Entry) (s k : ℕ) (old new : Board) : Type 0 where
@@ -57,6 +58,7 @@ pub record Turns (before : ℕ → List Entry) (s k : ℕ) (old new : Board) : T
   pub entries : s < length old.sessions → GoOnFrom (book_at old s).entries (book_at new s).entries
   pub lines_there : (i : ℕ) → i < length new.connections → i ≢ k → (i < length old.connections) × (connection_at new i ≡ connection_at old i)
   pub number : (i : ℕ) → i < length old.connections → i ≢ k → k < length new.connections → (connection_at new k).number ≢ (connection_at old i).number
+  pub named : (j : ℕ) → k < length new.connections → (connection_at new k).session ≡ Some j → j < length new.sessions
   -- the text of the connection itself, and of the others of the session
   pub text : (j : ℕ) → k < length new.connections → (connection_at new k).session ≡ Some j → HasTextOf before new j k
   pub texts : (i : ℕ) → i < length old.connections → i ≢ k → (connection_at old i).session ≡ Some s → HasTextOf before old s i
@@ -99,6 +101,13 @@ module _ (before : ℕ → List Entry) (s k : ℕ) (old new : Board) (is : IsNea
     ]
   ]
 
+  named_on : (j i : ℕ) → i < length new.connections → (connection_at new i).session ≡ Some j → j < length new.sessions
+  named_on j i within names = elim (same_or_other i k) [
+    | inl e ↦ turns.named j (subst (λ n. n < length new.connections) e within) (ap (λ n. (connection_at new n).session) (sym e) ∙ names)
+    | inr other ↦ (let there = turns.lines_there i within other in
+        subst (λ n. j < n) (sym turns.sessions) (is.named j i there.0 (sym (ap (λ (c : ConnectionState). c.session) there.1) ∙ names)))
+  ]
+
   -- the text of a connection that stays as it was
   text_there : (j i : ℕ) → i < length old.connections → i ≢ k → (connection_at old i).session ≡ Some j → HasTextOf before old j i
       → IsTextOf (names_at new j) (before j) (connection_at old i).number (book_at new j) (connection_at old i).out.outgoing
@@ -125,7 +134,7 @@ module _ (before : ℕ → List Entry) (s k : ℕ) (old new : Board) (is : IsNea
   ]
 
   pub turned : IsNearly before new
-  turned = record { sound = turns.sound; books = books_on; entries = entries_on; numbers = numbers_on; texts = texts_on; silent = silent_on }
+  turned = record { sound = turns.sound; books = books_on; entries = entries_on; named = named_on; numbers = numbers_on; texts = texts_on; silent = silent_on }
 
 -- each session but one that has a place is on
 abbrev pub AreOnBut : ℕ → Board → Type 0

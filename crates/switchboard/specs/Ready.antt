@@ -23,6 +23,8 @@ pub record IsReady (before : ℕ → List Entry) (board : Board) : Type 0 where
   pub entries : (s : ℕ) → s < length board.sessions → GoOnFrom (before s) (book_at board s).entries
   -- a session that is bound has asked for a Logon, or answered one
   pub on : (s k : ℕ) → s < length board.sessions → place_at board s ≡ Some k → (book_at board s).machine.phase ≢ Off
+  -- each session that a connection names is there
+  pub named : (s k : ℕ) → k < length board.connections → (connection_at board k).session ≡ Some s → s < length board.sessions
   pub numbers : (j k : ℕ) → j < length board.connections → k < length board.connections → (connection_at board j).number ≡ (connection_at board k).number → j ≡ k
   pub texts : (s k : ℕ) → k < length board.connections → (connection_at board k).session ≡ Some s → HasTextOf before board s k
   pub silent : (k : ℕ) → k < length board.connections → (connection_at board k).session ≡ None → (connection_at board k).out.outgoing ≡ no_outgoing

@@ -135,6 +135,7 @@ pub fn ready_boards_allow()
     // Of one that isn't.
     ensures free { (before : ℕ → List Entry) (board : Board) (s : ℕ) → IsReady before board → s < length board.sessions → place_at board s ≡ None → bound_of (book_at board s) ≡ None }
     // Of a connection that names a session, also once it has ended.
+    ensures there { (before : ℕ → List Entry) (board : Board) (s k : ℕ) → IsReady before board → k < length board.connections → (connection_at board k).session ≡ Some s → s < length board.sessions }
     ensures named { (before : ℕ → List Entry) (board : Board) (s k : ℕ) → IsReady before board → k < length board.connections → (connection_at board k).session ≡ Some s
         → All (NamesEntry (book_at board s).outbound) (connection_at board k).out.outgoing.unmade }
     // Of a connection that stands and names a session.

@@ -161,10 +161,6 @@ pub record Reads (got : WireGot) (routes : Routes) (k : ℕ) (buffer : List ℕ)
   pub reads : ReadsAs got routes k buffer at until old between
   pub tardy : LeavesIfTardy k at between new
 
--- each session that a connection names is there
-abbrev pub NameSessions : Board → Type 0
-NameSessions board = (k s : ℕ) → k < length board.connections → (connection_at board k).session ≡ Some s → s < length board.sessions
-
 -- what is made of the texts that wait on a connection before it is written
 abbrev pub PreparesTo : Option ℕ → ℕ → Board → Board → Type 0
 PreparesTo None k old new = new ≡ old

@@ -14,7 +14,7 @@ ghost use Rattle.switchboard.specs.Going.{GoesOnTo, KeepsBytes};
 ghost use Rattle.switchboard.specs.Happenings.{Happening, Happens, IsNewNumber, Reaches};
 ghost use Rattle.wire_desk.specs.Lines.{IsOnWire, IsSetUp, IsWired};
 ghost use Rattle.wire_desk.specs.declared.desk.WireDesk.{WireDesk};
-ghost use Rattle.wire_desk.specs.Steps.{AreApart, NameSessions, Progresses};
+ghost use Rattle.wire_desk.specs.Steps.{AreApart, Progresses};
 
 use session_desk::laws::sessions_proceed;
 use switchboard::laws::boards_go_on;
@@ -55,12 +55,8 @@ pub fn lines_progress()
     boards_go_on();
 }
 
-/// What a write asks beside what the wire has: each session that a connection names is there, and each
-/// place is listed once.
+/// Each place is listed once, which writes in turn ask.
 pub fn writes_stay_allowed()
-    ensures named_first { (board : Board) → board.connections ≡ [] → NameSessions board }
-    ensures named { (happening : Happening) (old new : Board) → Happens happening old new → NameSessions old → NameSessions new }
-    ensures named_over { (happenings : List Happening) (old new : Board) → Reaches happenings old new → NameSessions old → NameSessions new }
     ensures apart_first { AreApart [] }
     // A connection comes, which is listed behind the accepted ones, or behind the dialled ones.
     ensures apart_accepted { (board : Board) (first last : List ℕ) (door : Door) (links : ℕ → Link) → IsWired board (first ++ last) door links → AreApart (first ++ last)

@@ -10,7 +10,7 @@ ghost use Rattle.switchboard.specs.Board.{connection_at};
 ghost use Rattle.switchboard.specs.Going.{IsWrittenAsBefore};
 ghost use Rattle.wire_desk.specs.Lines.{IsOpenPlace, IsSetUp, IsWired, TookWhatIsWritten, standing, stands_at};
 ghost use Rattle.wire_desk.specs.Places.{open_places};
-ghost use Rattle.wire_desk.specs.Steps.{AreApart, AreOnWire, AreOpenFrom, GoesOnWriting, HasStopped, NameSessions, PartsIfNeeded, PreparesTo, Progresses, ProgressesUnread, ProgressesWriting, Writes, WritesInTurn, WritesOnce, WritesSome, cause_behind, sessions_of, written_so_far};
+ghost use Rattle.wire_desk.specs.Steps.{AreApart, AreOnWire, AreOpenFrom, GoesOnWriting, HasStopped, PartsIfNeeded, PreparesTo, Progresses, ProgressesUnread, ProgressesWriting, Writes, WritesInTurn, WritesOnce, WritesSome, cause_behind, sessions_of, written_so_far};
 
 use crate::desk::WireDesk;
 use crate::laws::lines_progress;
@@ -40,7 +40,6 @@ impl WireDesk {
         k: usize,
     ) -> Result<Written, NoMemory>
         requires set_up { IsSetUp leases.now desk.old self.now }
-        requires named { NameSessions desk.old.board }
         requires on_wire { AreOnWire desk.old.board (W.door wire.old) (W.link wire.old) }
         requires open_place { IsOpenPlace desk.old.board (W.link wire.old) k }
         ensures writes { IfOk result (λ written. Writes written k (W.link wire.old (connection_at desk.old.board k).number) (W.link wire.new (connection_at desk.old.board k).number)
@@ -50,7 +49,6 @@ impl WireDesk {
         ensures others { OthersStay (W.link wire.old) (W.link wire.new) (connection_at desk.old.board k).number }
         ensures closed { OnOk result (IsSome (connection_at desk.new.board k).cause → (W.link wire.new (connection_at desk.old.board k).number).closed ≡ true) }
         ensures set_up { OnOk result (IsSetUp leases.now desk.new self.now) }
-        ensures named { OnOk result (NameSessions desk.new.board) }
         ensures on_wire { OnOk result (AreOnWire desk.new.board (W.door wire.new) (W.link wire.new)) }
         ensures progresses { OnOk result (ProgressesWriting k desk.old.board desk.new.board) }
         ensures agree { AllAgree desk.new.board desk.new.seat }
@@ -75,7 +73,6 @@ impl WireDesk {
         wire: &mut W,
     ) -> Result<usize, NoMemory>
         requires set_up { IsSetUp leases.now desk.old self.old }
-        requires named { NameSessions desk.old.board }
         requires wired { IsWired desk.old.board (open_places self.old) (W.door wire.old) (W.link wire.old) }
         requires apart { AreApart (open_places self.old) }
         requires few { length (open_places self.old) ≤ MOST_CONNECTIONS + MOST_DIALLED }
@@ -83,7 +80,6 @@ impl WireDesk {
             (written_so_far desk.old self.old.unkept.items (W.link wire.old) 0) (written_so_far desk.new self.old.unkept.items (W.link wire.new) bytes)) }
         ensures door { W.door wire.new ≡ W.door wire.old }
         ensures set_up { OnOk result (IsSetUp leases.now desk.new self.new) }
-        ensures named { OnOk result (NameSessions desk.new.board) }
         ensures listed { OnOk result (open_places self.new ≡ standing desk.new.board (open_places self.old)) }
         ensures wired { OnOk result (IsWired desk.new.board (open_places self.new) (W.door wire.new) (W.link wire.new)) }
         ensures apart { OnOk result (AreApart (open_places self.new)) }
@@ -105,7 +101,6 @@ impl WireDesk {
         wire: &mut W,
     ) -> Result<usize, NoMemory>
         requires set_up { IsSetUp leases.now desk.old self.now }
-        requires named { NameSessions desk.old.board }
         requires on_wire { AreOnWire desk.old.board (W.door wire.old) (W.link wire.old) }
         requires open_places { AreOpenFrom 0 desk.old.board (W.link wire.old) (open_places self.now) }
         requires apart { AreApart (open_places self.now) }
@@ -114,7 +109,6 @@ impl WireDesk {
             (written_so_far desk.old self.now.unkept.items (W.link wire.old) 0) (written_so_far desk.new self.now.unkept.items (W.link wire.new) bytes)) }
         ensures door { W.door wire.new ≡ W.door wire.old }
         ensures set_up { OnOk result (IsSetUp leases.now desk.new self.now) }
-        ensures named { OnOk result (NameSessions desk.new.board) }
         ensures on_wire { OnOk result (AreOnWire desk.new.board (W.door wire.new) (W.link wire.new)) }
         ensures progresses { OnOk result (ProgressesUnread desk.old.board desk.new.board) }
         ensures agree { AllAgree desk.new.board desk.new.seat }
@@ -158,7 +152,6 @@ fn stands(board: &Switchboard, k: usize) -> bool
 fn prepare(alloc: Global, desk: &mut LeaseDesk, k: usize) -> Result<(), NoMemory>
     requires steady { IsSteady desk.old.board desk.old.seat }
     requires connection { k < length desk.old.board.connections }
-    requires named { NameSessions desk.old.board }
     ensures prepares { OnOk result (PreparesTo (connection_at desk.old.board k).session k desk.old.board desk.new.board) }
     ensures goes_on { GoesOnWriting k desk.old.board desk.new.board }
     ensures written { IsWrittenAsBefore (connection_at desk.old.board k) (connection_at desk.new.board k) }

@@ -17,6 +17,9 @@ returns-clause-on c = λ before board s k ready within at. ready.on s k within a
 pub returns-clause-free : goal.returns-clause-free
 returns-clause-free c = ready_free
 
+pub returns-clause-there : goal.returns-clause-there
+returns-clause-there c = λ before board s k ready within names. ready.named s k within names
+
 pub returns-clause-named : goal.returns-clause-named
 returns-clause-named c = λ before board s k ready within names.
     c.texts_are_told.ensures.unmade (names_at board s) (before s) (connection_at board k).number (book_at board s) (connection_at board k).out.outgoing (ready.texts s k within names)
