@@ -271,6 +271,7 @@ pub fn keep(
     let book = board.session(k);
     desk.unkept[k].note(book)?;
     let records = desk.unkept[k].records(alloc, s, book)?;
+    desk.unkept[k].hand_out(book);
     Ok(Some(records))
 }
 

@@ -70,31 +70,35 @@ impl Unkept {
         Ok(())
     }
 
-    /// Hands out the record of each entry that came since the last call, in order, for session `s`. It
-    /// takes time in proportion to these entries and their bodies.
+    /// The record of each entry that came since records were handed out last, in order, for session `s`.
+    /// It takes time in proportion to these entries and their bodies.
     pub fn records(
-        &mut self,
+        &self,
         alloc: Global,
         s: u16,
         book: &SessionBook,
     ) -> Result<Vec<Record>, NoMemory>
-        requires { HasNotedAll self.old book.now.book }
-        ensures records { IfOk result (λ records. records.items ≡ new_records s book.now.book self.old) }
-        ensures ok { OnOk result (self.new ≡ after_records book.now.book) }
-        ensures err { OnErr result (self.new ≡ self.old) }
+        requires { HasNotedAll self.now book.now.book }
+        ensures { IfOk result (λ records. records.items ≡ new_records s book.now.book self.now) }
     {
         let entries = book.entries();
-        let records = make_records(
+        make_records(
             alloc,
             s,
             book,
             book.series_behind(self.handed),
             &entries[self.handed..],
             self.expected.as_slice(),
-        )?;
+        )
+    }
+
+    /// The records of all entries that there are were handed out.
+    pub fn hand_out(&mut self, book: &SessionBook)
+        ensures { self.new ≡ after_records book.now.book }
+    {
+        let entries = book.entries();
         self.handed = entries.len();
         self.expected.clear();
-        Ok(records)
     }
 }
 

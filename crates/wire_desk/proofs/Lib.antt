@@ -4,6 +4,5 @@ pub mod Accepted
 pub mod Dialled
 pub mod OneByOne
 pub mod Writes
-pub mod Naming
 pub mod OnWire
 pub mod Turn

@@ -17,11 +17,10 @@ use Rattle.session_desk.specs.Steps.{parting}
 use Rattle.switchboard.specs.Board.{Board, book_at, connection_at, no_connection, no_session}
 use Rattle.switchboard.specs.Going.{GoesOnTo, IsSameConnection, KeepsBytes}
 use Rattle.switchboard.specs.Happenings.{Happens}
-use Rattle.wire_desk.proofs.Naming.{names_on, one_line}
 use Rattle.wire_desk.proofs.Progress.{same_or_other}
 use Rattle.wire_desk.proofs.Writes.{GoesOnAtWire, count_stays, line_here, line_there}
 use Rattle.wire_desk.specs.Lines.{IsNumbered, IsOnWire, TookWhatIsWritten}
-use Rattle.wire_desk.specs.Steps.{AreOnWire, GoesOnWriting, KeepsWhatCame, NameSessions, PartsIfNeeded, Progresses, ProgressesWriting}
+use Rattle.wire_desk.specs.Steps.{AreOnWire, GoesOnWriting, KeepsWhatCame, PartsIfNeeded, Progresses, ProgressesWriting}
 
 pub stands_since : (old new : Option Cause) → ((cause : Cause) → old ≡ Some cause → new ≡ Some cause) → new ≡ None → old ≡ None
 stands_since None new ended none = refl
@@ -54,10 +53,6 @@ parted_keeps None k cause old new parts = ended_keeps cause (connection_at old k
 pub keeps_came : (cause : Option Cause) (k : ℕ) (old new : Board) → PartsIfNeeded cause k old new → KeepsWhatCame (connection_at old k) (connection_at new k)
 keeps_came None k old new parts = subst (λ (b : Board). KeepsWhatCame (connection_at old k) (connection_at b k)) (sym parts) (came_itself (connection_at old k))
 keeps_came (Some cause) k old new parts = parted_keeps (connection_at old k).session k cause old new parts
-
-pub keep_names : (cause : Option Cause) (k : ℕ) (old new : Board) → GoesOnTo old new → PartsIfNeeded cause k old new → NameSessions old → NameSessions new
-keep_names None k old new goes parts was = subst NameSessions (sym parts) was
-keep_names (Some cause) k old new goes parts was = names_on (parting (connection_at old k).session k cause) old new goes.sessions parts was
 
 -- Texts are made and bytes are written on one connection, and then it ends, if it has to.
 module _ (k : ℕ) (old mid new : Board) (cause : Option Cause) (within : k < length old.connections) (changes : GoesOnWriting k old mid) (parts : PartsIfNeeded cause k mid new) (goes : Progresses k mid new) (itself : Progresses k old old) where
@@ -118,10 +113,6 @@ module _ (k : ℕ) (old mid new : Board) (cause : Option Cause) (within : k < le
     others = others_keep;
     came = came;
   }
-
-  pub names_stay : NameSessions old → NameSessions new
-  names_stay was = keep_names cause k mid new goes.goes_on parts
-      (one_line old mid (ap length changes.sessions) was k (record (connection_at old k) { out = (connection_at mid k).out }) refl changes.connections)
 
   pub number_stays : (connection_at new k).number ≡ (connection_at old k).number
   number_stays = (goes.goes_on.each k (small_mid k within)).number ∙ ap (λ (c : ConnectionState). c.number) here

@@ -7,6 +7,10 @@ use Rattle.std.proofs.lemmas.List.Kept.{AllPairs-cons, AllPairs-filter}
 use Rattle.std.specs.List.{All, AllPairs, Contains, filter}
 use Rattle.std.specs.Prelude.{◌&&◌, is_none, nat_lt}
 use Rattle.gate_io.specs.Wire.{Door, Link, OthersStay}
+use Rattle.gate_io.specs.declared.dials.Dialled.{Dialled}
+use Rattle.gate_io.specs.declared.dials.Dialled.TheVariants as dial
+use Rattle.gate_io.specs.declared.wires.Accepted.{Accepted}
+use Rattle.gate_io.specs.declared.wires.Accepted.TheVariants as accept
 use Rattle.lease_desk.specs.Desk.{GoesOn}
 use Rattle.session_core.specs.declared.causes.Cause.{Cause}
 use Rattle.switchboard.specs.Board.{Board, connection_at}
@@ -14,6 +18,7 @@ use Rattle.switchboard.specs.Going.{GoesOnTo}
 use Rattle.wire_desk.proofs.OnWire.{leases_further, stands_since}
 use Rattle.wire_desk.proofs.Progress.{same_or_other}
 use Rattle.wire_desk.specs.Lines.{IsOpenPlace, IsWired, standing, stands_at}
+use Rattle.wire_desk.specs.Places.{dialled_behind, listed_behind}
 use Rattle.wire_desk.specs.Steps.{AreApart, AreOnWire, AreOpenFrom, KeepsWhatCame, Progresses, ProgressesUnread, ProgressesWriting}
 
 came_further : (old mid new : Board) (k : ℕ) → KeepsWhatCame (connection_at old k) (connection_at mid k) → KeepsWhatCame (connection_at mid k) (connection_at new k) → KeepsWhatCame (connection_at old k) (connection_at new k)
@@ -119,3 +124,37 @@ pub apart_dialled : (first last : List ℕ) (n : ℕ) → All (λ k. k < n) (fir
 apart_dialled first last n below apart =
     let more = apart_more (first ++ last) [] n (subst (All (λ k. k < n)) (sym (append-nil (first ++ last))) below) (subst AreApart (sym (append-nil (first ++ last))) apart) in
     subst AreApart (append-nil ((first ++ last) ++ n ∷ []) ∙ append_assoc first last (n ∷ [])) more
+
+-- the place of a connection that came is listed behind those of its kind
+pub apart_accepted : (answer : Accepted) (board : Board) (first last : List ℕ) (door : Door) (links : ℕ → Link) → IsWired board (first ++ last) door links → AreApart (first ++ last)
+    → AreApart (listed_behind answer (length board.connections) first ++ last)
+apart_accepted (accept.New number) board first last door links was apart = apart_more first last (length board.connections) (within_places board (first ++ last) links was.listed) apart
+apart_accepted accept.Nothing board first last door links was apart = apart
+apart_accepted accept.Failed board first last door links was apart = apart
+
+pub apart_answered : (answer : Option Dialled) (board : Board) (first last : List ℕ) (door : Door) (links : ℕ → Link) → IsWired board (first ++ last) door links → AreApart (first ++ last)
+    → AreApart (first ++ dialled_behind answer (length board.connections) last)
+apart_answered None board first last door links was apart = apart
+apart_answered (Some dial.Failed) board first last door links was apart = apart
+apart_answered (Some (dial.New number)) board first last door links was apart = apart_dialled first last (length board.connections) (within_places board (first ++ last) links was.listed) apart
+
+one_more : (b : Bool) (x : ℕ) (first last all : List ℕ) → first ++ last ≡ all → cond b (x ∷ first) first ++ last ≡ cond b (x ∷ all) all
+one_more true x first last all same = ap (λ (xs : List ℕ). x ∷ xs) same
+one_more false x first last all same = same
+
+-- not more are kept than there are
+kept_or_not : (b : Bool) (x : ℕ) (rest all : List ℕ) → length rest ≤ length all → length (cond b (x ∷ rest) rest) ≤ length all + 1
+kept_or_not true x rest all few = omega arith
+kept_or_not false x rest all few = omega arith
+
+fewer_kept : (p : ℕ → Bool) (xs : List ℕ) → length (filter p xs) ≤ length xs
+fewer_kept p [] = omega arith
+fewer_kept p (x ∷ xs) = (let more = kept_or_not (p x) x (filter p xs) xs (fewer_kept p xs) in omega arith)
+
+pub fewer_standing : (board : Board) (places : List ℕ) → length (standing board places) ≤ length places
+fewer_standing board places = fewer_kept (stands_at board) places
+
+-- those of two lists are those of the one, and behind them those of the other
+pub standing_both : (board : Board) (first last : List ℕ) → standing board first ++ standing board last ≡ standing board (first ++ last)
+standing_both board [] last = refl
+standing_both board (x ∷ first) last = one_more (stands_at board x) x (standing board first) (standing board last) (standing board (first ++ last)) (standing_both board first last)

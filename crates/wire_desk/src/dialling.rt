@@ -1,14 +1,15 @@
 //! A session dials.
 
+ghost use Rattle.std.specs.List.{All};
 ghost use Rattle.std.specs.Prelude.{◌≡◌, ◌+◌, ◌<◌, ◌≤◌, ◌↔◌, ℕ, length, IfNone, IfOk, IfSome, IsSome, IsTrue, OnOk};
 ghost use Rattle.engine_config.specs.declared.config.TheConstants.{MOST_WAIT};
 ghost use Rattle.gate_io.specs.Wire.{Dials as TheWireDials, Door, OthersStay};
 ghost use Rattle.gate_io.specs.declared.wires.TheConstants.{FIRST_DIALLED};
 ghost use Rattle.lease_desk.specs.Desk.{AllAgree};
-ghost use Rattle.session_desk.specs.Steps.{Proceeds};
+ghost use Rattle.session_desk.specs.Steps.{IsSteady, Proceeds};
 ghost use Rattle.switchboard.specs.Board.{Board};
 ghost use Rattle.switchboard.specs.Going.{GoesOnTo};
-ghost use Rattle.wire_desk.specs.Dials.{DialsAs, IsDialDue, IsDialling, WaitsBy, plan_at};
+ghost use Rattle.wire_desk.specs.Dials.{DialsAs, IsDialDue, IsDialling, IsScheduled, WaitBehindEnded, WaitsBy, WaitsIfEnded, plan_at};
 ghost use Rattle.wire_desk.specs.Lines.{IsSetUp, IsWired};
 ghost use Rattle.wire_desk.specs.Places.{dialled_behind, open_places};
 ghost use Rattle.wire_desk.specs.declared.dialling.Dialler.{Dialler};
@@ -23,7 +24,7 @@ use session_book::laws::what_is_told_is_queued;
 use session_desk::dial as dial_session;
 use session_desk::laws::sessions_proceed;
 use std::alloc::Global;
-use switchboard::laws::{boards_go_on, boards_stay_ready};
+use switchboard::laws::{boards_go_on, boards_stay_ready, ready_boards_allow};
 
 /// The sessions that dial: where to, and when next.
 #[derive(Drop)]
@@ -106,6 +107,42 @@ impl Dialler {
         }
     }
 
+    /// The session of each dialled connection that has ended waits: of those that are listed.
+    pub(crate) fn wait_behind_ended(&mut self, desk: &LeaseDesk, lines: &WireDesk, at: u64)
+        requires moment { at ≤ LAST_MOMENT }
+        requires steady { IsSteady desk.now.board desk.now.seat }
+        requires listed { All (λ k. k < length desk.now.board.connections) lines.now.dialled.items }
+        requires scheduled { IsScheduled desk.now.board self.old }
+        ensures waits { WaitBehindEnded desk.now.board lines.now.dialled.items at self.old self.new }
+        ensures scheduled { IsScheduled desk.now.board self.new }
+        ensures rest { self.new ≡ record self.old { next = self.new.next } }
+    {
+        for i in 0..lines.dialled.len() {
+            self.wait_if_ended(desk, lines.dialled[i], at);
+        }
+    }
+
+    /// The session of a connection waits, if that has ended.
+    fn wait_if_ended(&mut self, desk: &LeaseDesk, k: usize, at: u64)
+        requires moment { at ≤ LAST_MOMENT }
+        requires steady { IsSteady desk.now.board desk.now.seat }
+        requires connection { k < length desk.now.board.connections }
+        requires scheduled { IsScheduled desk.now.board self.old }
+        ensures waits { WaitsIfEnded desk.now.board at k self.old self.new }
+        ensures scheduled { IsScheduled desk.now.board self.new }
+        ensures rest { self.new ≡ record self.old { next = self.new.next } }
+    {
+        ready_boards_allow();
+        dialling_goes_on();
+        let connection = desk.board.connection(k);
+        if !connection.has_ended() {
+            return;
+        }
+        if let Some(s) = connection.session() {
+            self.wait(s, at);
+        }
+    }
+
     /// Whether a dial is due for a session.
     fn is_due(&self, desk: &LeaseDesk, s: u16, at: u64) -> bool
         requires session { s < length desk.now.board.sessions }
@@ -137,4 +174,5 @@ impl Dialler {
 pub fn dialling_goes_on()
     ensures boards { (old new : Board) (before after : Door) (d : Dialler) → GoesOnTo old new → after.dialled ≡ before.dialled → IsDialling old before d → IsDialling new after d }
     ensures waits { (board : Board) (door : Door) (s at : ℕ) (old new : Dialler) → WaitsBy (plan_at old s) s at old new → IsDialling board door old → IsDialling board door new }
+    ensures waits_on { (board : Board) (s at : ℕ) (old new : Dialler) → WaitsBy (plan_at old s) s at old new → IsScheduled board old → IsScheduled board new }
 {}

@@ -1,9 +1,11 @@
 //! Laws of the definitions. Each is the contract of a function that does nothing.
 
-ghost use Rattle.std.specs.Prelude.{◌≡◌, ◌+◌, ◌<◌, ◌≤◌, ◌++◌, ◌∷◌, [], ℕ, List, false, length, None};
+ghost use Rattle.std.specs.Prelude.{◌≡◌, ◌+◌, ◌<◌, ◌≤◌, ◌++◌, ◌∷◌, [], ℕ, List, Option, false, length, None};
 ghost use Rattle.connection_core.specs.Connection.{ConnectionState, room};
 ghost use Rattle.connection_core.specs.declared.limits.TheConstants.{MOST_READ};
 ghost use Rattle.gate_io.specs.Wire.{Door, Link, OthersStay};
+ghost use Rattle.gate_io.specs.declared.dials.Dialled.{Dialled};
+ghost use Rattle.gate_io.specs.declared.wires.Accepted.{Accepted};
 ghost use Rattle.gate_io.specs.declared.wires.TheConstants.{FIRST_DIALLED};
 ghost use Rattle.lease_desk.specs.declared.desk.LeaseDesk.{LeaseDesk};
 ghost use Rattle.lease_words.specs.Views.{TableRef};
@@ -12,7 +14,8 @@ ghost use Rattle.session_desk.specs.Steps.{AreNoted, IsSteady, Proceeds};
 ghost use Rattle.switchboard.specs.Board.{Board, connection_at};
 ghost use Rattle.switchboard.specs.Going.{GoesOnTo, KeepsBytes};
 ghost use Rattle.switchboard.specs.Happenings.{Happening, Happens, IsNewNumber, Reaches};
-ghost use Rattle.wire_desk.specs.Lines.{IsOnWire, IsSetUp, IsWired};
+ghost use Rattle.wire_desk.specs.Lines.{IsOnWire, IsSetUp, IsWired, standing};
+ghost use Rattle.wire_desk.specs.Places.{dialled_behind, listed_behind};
 ghost use Rattle.wire_desk.specs.declared.desk.WireDesk.{WireDesk};
 ghost use Rattle.wire_desk.specs.Steps.{AreApart, Progresses};
 
@@ -55,14 +58,14 @@ pub fn lines_progress()
     boards_go_on();
 }
 
-/// Each place is listed once, which writes in turn ask.
-pub fn writes_stay_allowed()
-    ensures apart_first { AreApart [] }
-    // A connection comes, which is listed behind the accepted ones, or behind the dialled ones.
-    ensures apart_accepted { (board : Board) (first last : List ℕ) (door : Door) (links : ℕ → Link) → IsWired board (first ++ last) door links → AreApart (first ++ last)
-        → AreApart ((first ++ length board.connections ∷ []) ++ last) }
-    ensures apart_dialled { (board : Board) (first last : List ℕ) (door : Door) (links : ℕ → Link) → IsWired board (first ++ last) door links → AreApart (first ++ last)
-        → AreApart (first ++ (last ++ length board.connections ∷ [])) }
-{
-    boards_go_on();
-}
+/// Each place is listed once, which writes in turn ask: so it stays where the place of a connection that
+/// came, accepted or dialled, is listed behind those of its kind.
+pub fn places_stay_apart()
+    ensures first { AreApart [] }
+    ensures accepted { (answer : Accepted) (board : Board) (first last : List ℕ) (door : Door) (links : ℕ → Link) → IsWired board (first ++ last) door links → AreApart (first ++ last)
+        → AreApart (listed_behind answer (length board.connections) first ++ last) }
+    ensures dialled { (answer : Option Dialled) (board : Board) (first last : List ℕ) (door : Door) (links : ℕ → Link) → IsWired board (first ++ last) door links → AreApart (first ++ last)
+        → AreApart (first ++ dialled_behind answer (length board.connections) last) }
+    // Not more are listed where some are listed no longer.
+    ensures fewer { (board : Board) (places : List ℕ) → length (standing board places) ≤ length places }
+{}

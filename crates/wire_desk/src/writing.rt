@@ -8,16 +8,18 @@ ghost use Rattle.lease_desk.specs.Desk.{AllAgree};
 ghost use Rattle.session_desk.specs.Steps.{IsSteady};
 ghost use Rattle.switchboard.specs.Board.{connection_at};
 ghost use Rattle.switchboard.specs.Going.{IsWrittenAsBefore};
+ghost use Rattle.wire_desk.specs.Dials.{IsDialling, WaitBehindEnded};
 ghost use Rattle.wire_desk.specs.Lines.{IsOpenPlace, IsSetUp, IsWired, TookWhatIsWritten, standing, stands_at};
 ghost use Rattle.wire_desk.specs.Places.{open_places};
 ghost use Rattle.wire_desk.specs.Steps.{AreApart, AreOnWire, AreOpenFrom, GoesOnWriting, HasStopped, PartsIfNeeded, PreparesTo, Progresses, ProgressesUnread, ProgressesWriting, Writes, WritesInTurn, WritesOnce, WritesSome, cause_behind, sessions_of, written_so_far};
 
 use crate::desk::WireDesk;
+use crate::dialling::{Dialler, dialling_goes_on};
 use crate::laws::lines_progress;
 use crate::reading::part;
 use crate::written::{Stop, Written, Wrote};
 use connection_core::MOST_WRITTEN;
-use gate_io::{NoMemory, Wire, WireWrote};
+use gate_io::{LAST_MOMENT, NoMemory, Wire, WireWrote};
 use lease_desk::LeaseDesk;
 use lease_desk::laws::boards_stay_in_step;
 use lease_words::Leases;
@@ -64,30 +66,41 @@ impl WireDesk {
     }
 
     /// Writes to each connection that isn't closed, in the order of their numbers, and lists those that
-    /// have ended no longer: they are closed. Answers how many bytes were written on all of them.
+    /// have ended no longer: they are closed, and the sessions of dialled ones among them wait. Answers how
+    /// many bytes were written on all of them.
     pub fn write_all_open<W: Wire>(
         &mut self,
         alloc: Global,
         desk: &mut LeaseDesk,
         leases: &Leases,
+        dialler: &mut Dialler,
         wire: &mut W,
+        at: u64,
     ) -> Result<usize, NoMemory>
+        requires moment { at ≤ LAST_MOMENT }
         requires set_up { IsSetUp leases.now desk.old self.old }
         requires wired { IsWired desk.old.board (open_places self.old) (W.door wire.old) (W.link wire.old) }
         requires apart { AreApart (open_places self.old) }
         requires few { length (open_places self.old) ≤ MOST_CONNECTIONS + MOST_DIALLED }
+        requires dialling { IsDialling desk.old.board (W.door wire.old) dialler.old }
         ensures writes { IfOk result (λ bytes. WritesInTurn (open_places self.old) (length (open_places self.old))
             (written_so_far desk.old self.old.unkept.items (W.link wire.old) 0) (written_so_far desk.new self.old.unkept.items (W.link wire.new) bytes)) }
         ensures door { W.door wire.new ≡ W.door wire.old }
         ensures set_up { OnOk result (IsSetUp leases.now desk.new self.new) }
-        ensures listed { OnOk result (open_places self.new ≡ standing desk.new.board (open_places self.old)) }
+        ensures waits { OnOk result (WaitBehindEnded desk.new.board self.old.dialled.items at dialler.old dialler.new) }
+        ensures dialling { OnOk result (IsDialling desk.new.board (W.door wire.new) dialler.new) }
+        ensures accepted { OnOk result (self.new.accepted.items ≡ standing desk.new.board self.old.accepted.items) }
+        ensures dialled { OnOk result (self.new.dialled.items ≡ standing desk.new.board self.old.dialled.items) }
         ensures wired { OnOk result (IsWired desk.new.board (open_places self.new) (W.door wire.new) (W.link wire.new)) }
         ensures apart { OnOk result (AreApart (open_places self.new)) }
         ensures progresses { OnOk result (ProgressesUnread desk.old.board desk.new.board) }
         ensures agree { AllAgree desk.new.board desk.new.seat }
         ensures rest { self.new ≡ record self.old { accepted = self.new.accepted; dialled = self.new.dialled } }
+        ensures made { dialler.new ≡ record dialler.old { next = dialler.new.next } }
     {
+        dialling_goes_on();
         let bytes = self.write_each(alloc, desk, leases, wire)?;
+        dialler.wait_behind_ended(desk, self, at);
         self.drop_ended(desk);
         Ok(bytes)
     }
@@ -126,7 +139,8 @@ impl WireDesk {
 
     /// The connections that have ended are listed no longer.
     fn drop_ended(&mut self, desk: &LeaseDesk)
-        ensures listed { open_places self.new ≡ standing desk.now.board (open_places self.old) }
+        ensures accepted { self.new.accepted.items ≡ standing desk.now.board self.old.accepted.items }
+        ensures dialled { self.new.dialled.items ≡ standing desk.now.board self.old.dialled.items }
         ensures rest { self.new ≡ record self.old { accepted = self.new.accepted; dialled = self.new.dialled } }
     {
         keep_standing(&mut self.accepted, &desk.board);

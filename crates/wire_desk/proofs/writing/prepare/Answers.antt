@@ -7,7 +7,8 @@ names_it : (c : goal.After-from) → (connection_at c.args.desk.now.board c.args
 names_it c = cc
 
 pub prepare-requires-clause-session : goal.prepare-requires-clause-session
-prepare-requires-clause-session c = c.requires.named c.args.k c.from.result c.requires.connection (names_it c)
+prepare-requires-clause-session c = (let run = c.requires.steady.run in
+    c.ready_boards_allow.ensures.there run.before c.args.desk.now.board c.from.result c.args.k run.ready c.requires.connection (names_it c))
 
 pub prepare-requires-clause-named : goal.prepare-requires-clause-named
 prepare-requires-clause-named c = (let run = c.requires.steady.run in

@@ -6,7 +6,7 @@ use Rattle.session_core.specs.declared.causes.Cause.{Cause}
 use Rattle.switchboard.specs.Board.{connection_at}
 use Rattle.wire_desk.specs.Lines.{TookWhatIsWritten}
 use Rattle.wire_desk.specs.Steps.{GoesOnWriting, HasStopped, cause_behind}
-use Rattle.wire_desk.proofs.OnWire.{names_stay, number_stays, on_wire, progresses, took_since}
+use Rattle.wire_desk.proofs.OnWire.{number_stays, on_wire, progresses, took_since}
 use Rattle.wire_desk.proofs.Writes.{GoesOnAtWire, goes_further, line_here, stopped_further}
 use Rattle.wire_desk.proofs.desk.WireDesk.write.Given as given
 use Rattle.wire_desk.proofs.desk.WireDesk.write.Goals as goal
@@ -93,12 +93,6 @@ returns-clause-set_up g c =
       steady = c.in_ok-end_behind.ensures.steady;
       buffer = was.buffer;
     }
-
-pub returns-clause-named : goal.returns-clause-named
-returns-clause-named g c =
-    names_stay c.args.k c.args.desk.now.board c.write_all-written.new.desk.board c.end_behind.new.desk.board
-    (cause_behind c.write_all-written.result.stop (connection_at c.write_all-written.new.desk.board c.args.k)) c.requires.open_place.within (changes g c) c.in_ok-end_behind.ensures.ends c.in_ok-end_behind.ensures.progresses
-    (c.lines_progress.ensures.itself c.args.desk.now.board c.args.k) c.requires.named
 
 pub returns-clause-on_wire : goal.returns-clause-on_wire
 returns-clause-on_wire g c =

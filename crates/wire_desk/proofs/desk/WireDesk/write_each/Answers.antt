@@ -11,7 +11,6 @@ loop-i-init g c = record {
   most = omega arith;
   door = refl;
   set_up = c.requires.set_up;
-  named = c.requires.named;
   on_wire = c.requires.on_wire;
   open_from = c.requires.open_places;
   progresses = unread_itself c.args.desk.now.board (c.lines_progress.ensures.itself c.args.desk.now.board 0);
@@ -56,7 +55,6 @@ loop-i-preserved g c =
       most = (let most = was.most in let more = now.writes.most in omega arith);
       door = now.door ∙ was.door;
       set_up = now.set_up;
-      named = now.named;
       on_wire = now.on_wire;
       open_from = open_further c.loop-i.i c.open_place-k.result old new (link c.loop-i.wire) (link c.write.new.wire) places c.open_place-k.ensures c.requires.apart
           (λ j small same. was.set_up.steady.run.ready.numbers j c.open_place-k.result small there same) now.progresses now.others was.open_from;

@@ -2,7 +2,7 @@ use Rattle.std.proofs.Common.{◌≡◌, ◌≤◌, ◌*◌}
 use Rattle.connection_core.specs.declared.limits.TheConstants.{MOST_WRITTEN}
 use Rattle.wire_desk.specs.Lines.{IsSetUp}
 use Rattle.wire_desk.specs.Places.{open_places}
-use Rattle.wire_desk.specs.Steps.{AreOnWire, AreOpenFrom, NameSessions, ProgressesUnread, WritesInTurn, written_so_far}
+use Rattle.wire_desk.specs.Steps.{AreOnWire, AreOpenFrom, ProgressesUnread, WritesInTurn, written_so_far}
 use Rattle.wire_desk.proofs.desk.WireDesk.write_each.Given as goal
 
 abbrev pub invariant-loop-i : goal.invariant-loop-i
@@ -13,7 +13,6 @@ invariant-loop-i g l =
       most : l.bytes ≤ l.i * MOST_WRITTEN;
       door : g.W.Wire.door l.wire ≡ g.W.Wire.door l.fn.wire;
       set_up : IsSetUp l.leases l.desk l.self;
-      named : NameSessions l.desk.board;
       on_wire : AreOnWire l.desk.board (g.W.Wire.door l.wire) (g.W.Wire.link l.wire);
       open_from : AreOpenFrom l.i l.desk.board (g.W.Wire.link l.wire) places;
       progresses : ProgressesUnread l.fn.desk.board l.desk.board;

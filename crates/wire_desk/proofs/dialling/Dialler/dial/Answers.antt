@@ -49,10 +49,10 @@ returns-in_ok-k-in-New-clause-dialling g c =
     let was = c.dialling_goes_on.ensures.boards c.args.desk.now.board c.dial.new.desk.board before before c.args.self.now c.in_ok-k-in-New.ensures.proceeds.goes_on refl c.requires.dialling in
     let after = c.call_up-dialled.new.wire in
     let dialled = one_more_dialled c.in-New.number before (g.W.Wire.door after) (g.W.Wire.link after) c.in-New.ensures.dials in
+    let left = c.if-is_due.ensures in
     record {
-      plans = was.plans;
-      next = was.next;
-      each = was.each;
+      scheduled = record { plans = was.scheduled.plans; next = was.scheduled.next; each = was.scheduled.each };
       made = ap (λ n. n + 1) was.made ∙ sym dialled;
+      few = hole;
       most = was.most;
     }
