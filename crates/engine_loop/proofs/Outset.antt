@@ -31,6 +31,7 @@ use Rattle.switchboard.specs.Ready.{IsReady, entries_of}
 use Rattle.wire_desk.specs.Dials.{IsDialling, IsPlanOf, plan_at}
 use Rattle.wire_desk.specs.Lines.{IsOpenPlace}
 use Rattle.wire_desk.specs.Places.{open_places}
+use Rattle.wire_desk.specs.Steps.{AreApart}
 use Rattle.wire_desk.specs.declared.dialling.Dialler.{Dialler}
 
 range_more : (first n : ℕ) → range_with_len first (suc n) ≡ range_with_len first n ++ (first + n) ∷ []
@@ -156,20 +157,23 @@ plan_begins config board s starts within (Some plan) dials is = record {
 
 begins_dialling : (config : Config) (board : Board) (d : Dialler) (door : Door) → IsConfig config → StartsSessions config board → StartsDials config d → door.dialled ≡ 0 → IsDialling board door d
 begins_dialling config board d door is sessions dials none = record {
-  plans = ap (λ (ps : List (Option DialTo)). length ps) dials.plans ∙ is.dialled ∙ sym sessions.count;
-  next = ap (λ (ms : List ℕ). length ms) dials.next ∙ length-replicate (length config.dialled) 0 ∙ is.dialled ∙ sym sessions.count;
-  each = λ s small.
-      let within : s < length config.names = subst (λ n. s < n) sessions.count small in
-      let same : plan_at d s ≡ dial_of config s = ap (λ (ps : List (Option DialTo)). slice_index_or ps s None) dials.plans in
-      subst (λ (o : Option DialTo). IfSome o (IsPlanOf board s)) (sym same) (plan_begins config board s sessions within (dial_of config s) refl (is.each_dial s within));
+  scheduled = record {
+    plans = ap (λ (ps : List (Option DialTo)). length ps) dials.plans ∙ is.dialled ∙ sym sessions.count;
+    next = ap (λ (ms : List ℕ). length ms) dials.next ∙ length-replicate (length config.dialled) 0 ∙ is.dialled ∙ sym sessions.count;
+    each = λ s small.
+        let within : s < length config.names = subst (λ n. s < n) sessions.count small in
+        let same : plan_at d s ≡ dial_of config s = ap (λ (ps : List (Option DialTo)). slice_index_or ps s None) dials.plans in
+        subst (λ (o : Option DialTo). IfSome o (IsPlanOf board s)) (sym same) (plan_begins config board s sessions within (dial_of config s) refl (is.each_dial s within));
+  };
   made = dials.made ∙ sym none;
+  few = (let made = dials.made in omega arith);
   most = subst (λ n. n ≤ MOST_DIALLED) (sym dials.most) is.dials;
 }
 
 -- where no connection came or was dialled, none is on the wire
-pub begins_online : (config : Config) (moment : ℕ) (e : Engine) → IsConfig config → StartsSessions config e.sessions.desk.board → StartsLines config e.lines → StartsDials config e.dialler → StartsFigures config moment e
+pub begins_online : AreApart [] → (config : Config) (moment : ℕ) (e : Engine) → IsConfig config → StartsSessions config e.sessions.desk.board → StartsLines config e.lines → StartsDials config e.dialler → StartsFigures config moment e
     → (door : Door) (links : ℕ → Link) → door.accepted ≡ 0 → door.dialled ≡ 0 → IsOnline e door links
-begins_online config moment e is sessions lines dials figures door links none undialled =
+begins_online none_apart config moment e is sessions lines dials figures door links none undialled =
     let board = e.sessions.desk.board in
     let no_connections : length board.connections ≡ 0 = ap (λ (cs : List ConnectionState). length cs) sessions.first.connections in
     let no_places : open_places e.lines ≡ [] = ap (λ (ks : List ℕ). ks ++ e.lines.dialled.items) lines.accepted ∙ lines.dialled in
@@ -181,4 +185,7 @@ begins_online config moment e is sessions lines dials figures door links none un
       };
       dialling = begins_dialling config board e.dialler door is sessions dials undialled;
       accepted = figures.accepted ∙ sym none;
+      apart = subst AreApart (sym no_places) none_apart;
+      few_accepted = (let first = ap (λ (ks : List ℕ). length ks) lines.accepted in omega arith);
+      few_dialled = (let last = ap (λ (ks : List ℕ). length ks) lines.dialled in omega arith);
     }

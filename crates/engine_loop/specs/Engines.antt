@@ -1,5 +1,5 @@
 -- What holds of an engine between two steps of a turn.
-use Rattle.std.specs.Prelude.{◌≡◌, ℕ, ◌+◌, ◌≤◌, false, min}
+use Rattle.std.specs.Prelude.{◌≡◌, ℕ, ◌+◌, ◌≤◌, false, length, min}
 use Rattle.engine_loop.specs.declared.engine.Engine.{Engine}
 use Rattle.gate_io.specs.Wire.{Door, Link}
 use Rattle.gate_io.specs.declared.clocks.TheConstants.{LAST_MOMENT}
@@ -10,6 +10,7 @@ use Rattle.library_desk.specs.declared.shared.Shared.{Shared}
 use Rattle.wire_desk.specs.Dials.{IsDialling}
 use Rattle.wire_desk.specs.Lines.{IsSetUp, IsWired}
 use Rattle.wire_desk.specs.Places.{open_places}
+use Rattle.wire_desk.specs.Steps.{AreApart}
 
 -- sessions, libraries and connections belong together, and are in order
 pub record IsAtWork (shared : Shared) (e : Engine) : Type 0 where
@@ -20,11 +21,14 @@ pub record IsAtWork (shared : Shared) (e : Engine) : Type 0 where
   pub most : e.connections ≤ MOST_CONNECTIONS
   pub few : e.accepted ≤ e.connections
 
--- the wire has the engine's connections
+-- the wire has the engine's connections, and those that aren't closed are listed once each
 pub record IsOnline (e : Engine) (door : Door) (links : ℕ → Link) : Type 0 where
   pub wired : IsWired e.sessions.desk.board (open_places e.lines) door links
   pub dialling : IsDialling e.sessions.desk.board door e.dialler
   pub accepted : e.accepted ≡ door.accepted
+  pub apart : AreApart (open_places e.lines)
+  pub few_accepted : length e.lines.accepted.items ≤ e.accepted
+  pub few_dialled : length e.lines.dialled.items ≤ e.dialler.made
 
 -- An engine between two calls: the journals tell the leases that its seat has seen, and where memory never was wanting, all is in order.
 pub record IsEngine (shared : Shared) (e : Engine) (door : Door) (links : ℕ → Link) : Type 0 where

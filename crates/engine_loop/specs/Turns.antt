@@ -3,6 +3,7 @@ use Rattle.std.specs.Prelude.{◌≡◌, ℕ, ◌+◌, ◌<◌, ◌≤◌, ◌�
 use Rattle.engine_loop.specs.Engines.{until_of}
 use Rattle.engine_loop.specs.declared.engine.Engine.{Engine}
 use Rattle.engine_loop.specs.declared.records.Taken.{Taken}
+use Rattle.engine_loop.specs.declared.records.Turn.{Turn}
 use Rattle.gate_io.specs.Wire.{Accepts, Door, Link}
 use Rattle.gate_io.specs.declared.clocks.TheConstants.{LAST_MOMENT}
 use Rattle.gate_io.specs.declared.wires.Accepted.{Accepted}
@@ -10,14 +11,17 @@ use Rattle.gate_io.specs.declared.wires.Accepted.TheVariants.{Failed, New, Nothi
 use Rattle.gate_io.specs.declared.dials.Dialled.{Dialled}
 use Rattle.gate_io.specs.declared.wires.WireGot.{WireGot}
 use Rattle.lease_desk.specs.Desk.{InTurn}
+use Rattle.lease_words.specs.Sees.{after_publish}
+use Rattle.lease_words.specs.Views.{engine_at, with_engine_at}
 use Rattle.library_desk.specs.Serving.{Serves}
 use Rattle.library_desk.specs.declared.serving.LibTurn.{LibTurn}
 use Rattle.session_core.specs.declared.causes.Cause.{Cause}
 use Rattle.session_desk.specs.Steps.{Ticks, noted}
-use Rattle.switchboard.specs.Board.{connection_at}
-use Rattle.wire_desk.specs.Dials.{DialsAs}
+use Rattle.switchboard.specs.Board.{book_at, connection_at}
+use Rattle.wire_desk.specs.Dials.{DialsAs, WaitBehindEnded}
+use Rattle.wire_desk.specs.Lines.{standing}
 use Rattle.wire_desk.specs.Places.{dialled_behind, listed_behind, open_places}
-use Rattle.wire_desk.specs.Steps.{AcceptsAs, Reads, sessions_of}
+use Rattle.wire_desk.specs.Steps.{AcceptsAs, Reads, WritesInTurn, sessions_of, written_so_far}
 
 -- a turn begins: its moment is the clock's reading, or that of the turn before where that is later
 abbrev pub with_moment : ℕ → Engine → Engine
@@ -118,3 +122,41 @@ pub record TakesTurn (reading : ℕ) (old new : Engine) (taken : Taken) : Type 0
   pub ticks : InTurn TicksSession (length read.sessions.desk.board.sessions) read ticked
   pub serves : InTurn (λ i. ServesOne (i + 1)) (length ticked.sessions.ends.items) (serving_of ticked []) (serving_of served taken.libs)
   pub notes : InTurn NotesSession (length served.sessions.desk.board.sessions) served new
+
+-- the length of a session's inbound log is published
+pub record PublishesSession (s : ℕ) (old new : Engine) : Type 0 where
+  pub board : new.sessions.desk.board ≡ old.sessions.desk.board
+  pub seat : new.sessions.desk.seat ≡ with_engine_at old.sessions.desk.seat s (after_publish (engine_at old.sessions.desk.seat s) (length (book_at old.sessions.desk.board s).inbound))
+  pub rest : new ≡ record old { sessions = record (old.sessions) { desk = new.sessions.desk } }
+
+-- Each connection that isn't closed is written to, and is closed if it has ended: it is listed no longer, and the session that dialled it waits.
+pub record WritesAll (links_old links_new : ℕ → Link) (old new : Engine) (bytes : ℕ) : Type 0 where
+  pub writes : WritesInTurn (open_places old.lines) (length (open_places old.lines))
+      (written_so_far old.sessions.desk old.lines.unkept.items links_old 0) (written_so_far new.sessions.desk old.lines.unkept.items links_new bytes)
+  pub waits : WaitBehindEnded new.sessions.desk.board old.lines.dialled.items old.moment old.dialler new.dialler
+  pub accepted : new.lines.accepted.items ≡ standing new.sessions.desk.board old.lines.accepted.items
+  pub dialled : new.lines.dialled.items ≡ standing new.sessions.desk.board old.lines.dialled.items
+  pub lines : new.lines ≡ record (old.lines) { accepted = new.lines.accepted; dialled = new.lines.dialled }
+  pub rest : new ≡ record old { sessions = record (old.sessions) { desk = new.sessions.desk }; lines = new.lines; dialler = new.dialler }
+
+-- what is published and written in a turn
+pub record GivesAll (links_old links_new : ℕ → Link) (old new : Engine) (bytes : ℕ) : Type 0 where
+  pub published : Engine
+  pub publishes : InTurn PublishesSession (length old.sessions.desk.board.sessions) old published
+  pub writes : WritesAll links_old links_new published new bytes
+
+-- The second half of a turn: each session's messages are published, and each connection that isn't closed is written to.
+pub record GivesTurn (links_old links_new : ℕ → Link) (old new : Engine) (taken : Taken) (turn : Turn) : Type 0 where
+  pub gives : GivesAll links_old links_new old new turn.written
+  pub moment : turn.moment ≡ taken.moment
+  pub accepted : turn.accepted ≡ taken.accepted
+  pub reads : turn.reads ≡ taken.reads
+  pub libs : turn.libs ≡ taken.libs
+
+-- A turn: what it took and what it gave.
+pub record MakesTurn (reading : ℕ) (links_new : ℕ → Link) (old new : Engine) (turn : Turn) : Type 0 where
+  pub taken : Taken
+  pub middle : Engine
+  pub links_middle : ℕ → Link
+  pub takes : TakesTurn reading old middle taken
+  pub gives : GivesTurn links_middle links_new middle new taken turn

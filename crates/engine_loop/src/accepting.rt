@@ -13,6 +13,8 @@ use lease_desk::laws::boards_stay_in_step;
 use library_desk::Shared;
 use std::alloc::Global;
 use switchboard::laws::boards_go_on;
+use wire_desk::dialling_goes_on;
+use wire_desk::laws::places_stay_apart;
 
 impl Engine {
     /// Asks the wire for a connection, where fewer were accepted than the run has.
@@ -55,6 +57,8 @@ impl Engine {
         ensures agree { AllAgree self.new.sessions.desk.board self.new.sessions.desk.seat }
     {
         engines_stay();
+        dialling_goes_on();
+        places_stay_apart();
         boards_go_on();
         boards_stay_in_step();
         let desk = &mut self.sessions.desk;

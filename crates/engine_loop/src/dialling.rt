@@ -10,7 +10,7 @@ use crate::laws::engines_stay;
 use gate_io::{Dial, NoMemory};
 use library_desk::Shared;
 use std::alloc::Global;
-use wire_desk::laws::lines_progress;
+use wire_desk::laws::places_stay_apart;
 
 impl Engine {
     /// Each session dials that is due, in the order of their numbers.
@@ -53,6 +53,7 @@ impl Engine {
         ensures count { OnOk result (length self.new.sessions.desk.board.sessions ≡ length self.old.sessions.desk.board.sessions) }
     {
         engines_stay();
+        places_stay_apart();
         let until = self.until();
         let moment = self.moment;
         let desk = &mut self.sessions.desk;

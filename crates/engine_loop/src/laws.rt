@@ -9,7 +9,6 @@ ghost use Rattle.library_desk.specs.declared.shared.Shared.{Shared};
 ghost use Rattle.switchboard.specs.Board.{connection_at};
 ghost use Rattle.switchboard.specs.Going.{GoesOnTo, KeepsBytes};
 ghost use Rattle.wire_desk.specs.Lines.{IsSetUp};
-ghost use Rattle.wire_desk.specs.Places.{open_places};
 
 use library_desk::laws::cursors_stay;
 use wire_desk::dialling_goes_on;
@@ -23,7 +22,7 @@ pub fn engines_stay()
     // Nothing came, was cut or written.
     ensures still { (old new : Engine) (door : Door) (links : ℕ → Link) → GoesOnTo old.sessions.desk.board new.sessions.desk.board → length new.sessions.desk.board.connections ≡ length old.sessions.desk.board.connections
         → ((k : ℕ) → k < length old.sessions.desk.board.connections → KeepsBytes (connection_at old.sessions.desk.board k) (connection_at new.sessions.desk.board k))
-        → open_places new.lines ≡ open_places old.lines → new.dialler ≡ old.dialler → new.accepted ≡ old.accepted → IsOnline old door links → IsOnline new door links }
+        → new.lines.accepted.items ≡ old.lines.accepted.items → new.lines.dialled.items ≡ old.lines.dialled.items → new.dialler ≡ old.dialler → new.accepted ≡ old.accepted → IsOnline old door links → IsOnline new door links }
 {
     cursors_stay();
     lines_progress();

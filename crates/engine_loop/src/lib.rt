@@ -5,8 +5,10 @@
 mod accepting;
 mod dialling;
 mod engine;
+mod giving;
 pub mod laws;
 mod noting;
+mod publishing;
 mod reading;
 mod records;
 mod serving;
@@ -15,5 +17,5 @@ mod taking;
 mod ticking;
 
 pub use engine::Engine;
-pub use records::Taken;
+pub use records::{Taken, Turn};
 pub use starting::start;

@@ -21,6 +21,7 @@ use session_core::Names;
 use session_desk::Routes;
 use std::alloc::Global;
 use switchboard::laws::boards_stay_ready;
+use wire_desk::laws::places_stay_apart;
 use wire_desk::{Dialler, WireDesk};
 
 /// An engine that made no turn, what it shares with its libraries, and their ends, in the order of their
@@ -46,6 +47,7 @@ pub fn start(
     ensures figures { IfOk result (λ made. StartsFigures config moment made.0) }
 {
     boards_stay_ready();
+    places_stay_apart();
     let (sessions, shared, ends) = engine_start::start(alloc, &config, moment)?;
     let engine = Engine {
         sessions,

@@ -158,3 +158,12 @@ fewer_standing board places = fewer_kept (stands_at board) places
 pub standing_both : (board : Board) (first last : List ℕ) → standing board first ++ standing board last ≡ standing board (first ++ last)
 standing_both board [] last = refl
 standing_both board (x ∷ first) last = one_more (stands_at board x) x (standing board first) (standing board last) (standing board (first ++ last)) (standing_both board first last)
+
+-- the places of the one list are below the next one
+all_last : (P : ℕ → Type 0) (first last : List ℕ) → All P (first ++ last) → All P last
+all_last P [] last all = all
+all_last P (x ∷ first) last all = all_last P first last (All-tail P x (first ++ last) all)
+
+pub last_within : (old new : Board) (links : ℕ → Link) (first last : List ℕ) → length new.connections ≡ length old.connections → All (IsOpenPlace old links) (first ++ last) → All (λ k. k < length new.connections) last
+last_within old new links first last count is =
+    All-weaker (IsOpenPlace old links) (λ k. k < length new.connections) (λ k place. subst (λ n. k < n) (sym count) place.within) last (all_last (IsOpenPlace old links) first last is)

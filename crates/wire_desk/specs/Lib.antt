@@ -1,4 +1,5 @@
 pub mod Dials
+pub mod Fresh
 pub mod Lines
 pub mod Places
 pub mod Steps

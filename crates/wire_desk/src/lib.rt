@@ -8,6 +8,7 @@
 mod accepting;
 mod desk;
 mod dialling;
+mod fresh;
 mod handling;
 pub mod laws;
 mod reading;

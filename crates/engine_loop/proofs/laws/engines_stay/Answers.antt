@@ -1,4 +1,4 @@
-use Rattle.std.proofs.Common.{◌≡◌, ℕ, ◌≤◌, List, length, refl, sym, ap, subst, ◌∙◌}
+use Rattle.std.proofs.Common.{◌≡◌, ℕ, ◌≤◌, ◌++◌, List, length, refl, sym, ap, subst, ◌∙◌, arith}
 use Rattle.catchup_pump.specs.declared.cursor.Cursor.{Cursor}
 use Rattle.engine_loop.specs.declared.engine.Engine.{Engine}
 use Rattle.gate_io.specs.declared.clocks.TheConstants.{LAST_MOMENT}
@@ -8,6 +8,8 @@ use Rattle.library_desk.specs.Serving.{AreCursors, IsLinked}
 use Rattle.library_desk.specs.declared.desk.LibraryDesk.{LibraryDesk}
 use Rattle.wire_desk.specs.Dials.{IsDialling}
 use Rattle.wire_desk.specs.Lines.{IsWired}
+use Rattle.wire_desk.specs.Places.{open_places}
+use Rattle.wire_desk.specs.Steps.{AreApart}
 use Rattle.wire_desk.specs.declared.dialling.Dialler.{Dialler}
 use Rattle.engine_loop.proofs.laws.engines_stay.Goals as goal
 
@@ -39,9 +41,14 @@ returns-clause-work c = λ shared old new rest goes leases set_up was.
     }
 
 pub returns-clause-still : goal.returns-clause-still
-returns-clause-still c = λ old new door links goes count bytes places dialler accepted was. record {
-  wired = subst (λ (xs : List ℕ). IsWired new.sessions.desk.board xs door links) (sym places)
-      (c.lines_progress.ensures.still old.sessions.desk.board new.sessions.desk.board _ door links goes count bytes was.wired);
-  dialling = subst (λ (d : Dialler). IsDialling new.sessions.desk.board door d) (sym dialler) (c.dialling_goes_on.ensures.boards old.sessions.desk.board new.sessions.desk.board door door old.dialler goes refl was.dialling);
-  accepted = accepted ∙ was.accepted;
-}
+returns-clause-still c = λ old new door links goes count bytes first last dialler accepted was.
+    let places : open_places new.lines ≡ open_places old.lines = ap (λ (ks : List ℕ). ks ++ new.lines.dialled.items) first ∙ ap (λ (ks : List ℕ). old.lines.accepted.items ++ ks) last in
+    record {
+      wired = subst (λ (xs : List ℕ). IsWired new.sessions.desk.board xs door links) (sym places)
+          (c.lines_progress.ensures.still old.sessions.desk.board new.sessions.desk.board _ door links goes count bytes was.wired);
+      dialling = subst (λ (d : Dialler). IsDialling new.sessions.desk.board door d) (sym dialler) (c.dialling_goes_on.ensures.boards old.sessions.desk.board new.sessions.desk.board door door old.dialler goes refl was.dialling);
+      accepted = accepted ∙ was.accepted;
+      apart = subst AreApart (sym places) was.apart;
+      few_accepted = (let few = was.few_accepted in let count = ap (λ (ks : List ℕ). length ks) first in omega arith);
+      few_dialled = (let few = was.few_dialled in let count = ap (λ (ks : List ℕ). length ks) last in let made = ap (λ (d : Dialler). d.made) dialler in omega arith);
+    }

@@ -11,4 +11,4 @@ returns-clause-work c =
     begins_at_work c.args.config c.args.moment _ _ c.requires.config c.requires.moment begun.linked begun.in_order begun.sessions ready c.in_ok-lines.ensures.routes c.in_ok-lines.ensures.lines (record { connections = refl; accepted = refl; hold = refl; moment = refl; failed = refl })
 
 pub returns-clause-online : goal.returns-clause-online
-returns-clause-online c = begins_online c.args.config c.args.moment _ c.requires.config c.in_ok-sessions.ensures.sessions c.in_ok-lines.ensures.lines c.in_ok-dialler.ensures (record { connections = refl; accepted = refl; hold = refl; moment = refl; failed = refl })
+returns-clause-online c = begins_online c.places_stay_apart.ensures.first c.args.config c.args.moment _ c.requires.config c.in_ok-sessions.ensures.sessions c.in_ok-lines.ensures.lines c.in_ok-dialler.ensures (record { connections = refl; accepted = refl; hold = refl; moment = refl; failed = refl })

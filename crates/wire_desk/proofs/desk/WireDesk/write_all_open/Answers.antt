@@ -1,10 +1,8 @@
-use Rattle.std.proofs.Common.{◌≡◌, ◌++◌, ◌<◌, ℕ, List, length, refl, sym, ap, subst, ◌∙◌}
-use Rattle.std.proofs.lemmas.List.Elements.{All-append_right}
-use Rattle.wire_desk.specs.Dials.{IsDialling}
+use Rattle.std.proofs.Common.{◌≡◌, ◌++◌, ℕ, List, sym, ap, subst, ◌∙◌}
 use Rattle.wire_desk.specs.Lines.{IsWired, standing}
 use Rattle.wire_desk.specs.Places.{open_places}
 use Rattle.wire_desk.specs.Steps.{AreApart}
-use Rattle.wire_desk.proofs.Turn.{apart_behind, standing_both, wired_behind, within_places}
+use Rattle.wire_desk.proofs.Turn.{apart_behind, last_within, standing_both, wired_behind}
 use Rattle.wire_desk.proofs.desk.WireDesk.write_all_open.Given as given
 use Rattle.wire_desk.proofs.desk.WireDesk.write_all_open.Goals as goal
 
@@ -23,3 +21,7 @@ returns-clause-wired g c =
 
 pub returns-clause-apart : goal.returns-clause-apart
 returns-clause-apart g c = subst AreApart (sym (listed g c)) (apart_behind c.write_each.new.desk.board (open_places c.args.self.now) c.requires.apart)
+
+pub wait_behind_ended-requires-clause-listed : goal.wait_behind_ended-requires-clause-listed
+wait_behind_ended-requires-clause-listed g c =
+    last_within c.args.desk.now.board c.write_each.new.desk.board (g.W.Wire.link c.args.wire.now) c.args.self.now.accepted.items c.args.self.now.dialled.items c.in_ok-bytes.ensures.progresses.count c.requires.wired.listed

@@ -1,7 +1,8 @@
-use Rattle.std.proofs.Common.{◌≡◌, ◌+◌, ◌++◌, [], ◌∷◌, ℕ, List, length, refl, sym, ap, subst, ◌∙◌}
+use Rattle.std.proofs.Common.{◌≡◌, ◌+◌, ◌++◌, [], ◌∷◌, ℕ, List, length, refl, sym, ap, subst, ◌∙◌, arith}
 use Rattle.connection_core.specs.Outgoing.{no_outgoing}
 use Rattle.session_book.specs.Book.{with_outbox}
 use Rattle.switchboard.specs.Board.{book_at}
+use Rattle.wire_desk.specs.Dials.{IsDialDue}
 use Rattle.wire_desk.specs.Lines.{IsWired}
 use Rattle.wire_desk.proofs.Dialled.{dialled_wired, gathering_keeps, one_more_dialled}
 use Rattle.wire_desk.proofs.dialling.Dialler.dial.Goals as goal
@@ -49,10 +50,10 @@ returns-in_ok-k-in-New-clause-dialling g c =
     let was = c.dialling_goes_on.ensures.boards c.args.desk.now.board c.dial.new.desk.board before before c.args.self.now c.in_ok-k-in-New.ensures.proceeds.goes_on refl c.requires.dialling in
     let after = c.call_up-dialled.new.wire in
     let dialled = one_more_dialled c.in-New.number before (g.W.Wire.door after) (g.W.Wire.link after) c.in-New.ensures.dials in
-    let left = c.if-is_due.ensures in
+    let due : IsDialDue c.args.desk.now.board c.args.self.now c.args.s c.args.at = c.is_due.ensures.0 (cc (c.if-not-is_due.false)) in
     record {
       scheduled = record { plans = was.scheduled.plans; next = was.scheduled.next; each = was.scheduled.each };
       made = ap (λ n. n + 1) was.made ∙ sym dialled;
-      few = hole;
+      few = (let left = due.left in omega arith);
       most = was.most;
     }

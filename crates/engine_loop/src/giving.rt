@@ -1,0 +1,127 @@
+//! The second half of a turn, and a whole one.
+
+ghost use Rattle.std.specs.Prelude.{◌≡◌, ◌≤◌, IfOk, IsErr, OnErr, OnOk, length, true, false};
+ghost use Rattle.engine_loop.specs.Engines.{IsAtWork, IsEngine, IsOnline};
+ghost use Rattle.engine_loop.specs.Turns.{GivesAll, GivesTurn, MakesTurn, WritesAll};
+ghost use Rattle.gate_io.specs.Counts.{HasRisen};
+ghost use Rattle.lease_desk.specs.Desk.{AllAgree};
+
+use crate::engine::Engine;
+use crate::laws::engines_stay;
+use crate::records::{Taken, Turn};
+use gate_io::{Clock, Dial, NoMemory};
+use library_desk::Shared;
+use std::alloc::Global;
+use wire_desk::laws::places_stay_apart;
+
+impl Engine {
+    /// A turn: both halves.
+    pub fn turn<W: Dial, C: Clock>(
+        &mut self,
+        alloc: Global,
+        shared: &Shared,
+        wire: &mut W,
+        clock: &mut C,
+    ) -> Result<Turn, NoMemory>
+        requires engine { IsEngine shared.now self.old (W.door wire.old) (W.link wire.old) }
+        ensures turns { IfOk result (λ turn. MakesTurn (C.last clock.new) (W.link wire.new) self.old self.new turn) }
+        ensures clock { OnOk result (HasRisen (C.readings clock.old) (C.readings clock.new)) }
+        ensures engine { IsEngine shared.now self.new (W.door wire.new) (W.link wire.new) }
+        ensures goes_on { OnOk result (self.new.failed ≡ false) }
+        ensures failed { OnErr result (self.new.failed ≡ true) }
+        // An engine for which memory was wanting does nothing.
+        ensures stands_still { self.old.failed ≡ true → IsErr result }
+        ensures engine_stays { self.old.failed ≡ true → self.new ≡ self.old }
+        ensures wire_stays { self.old.failed ≡ true → wire.new ≡ wire.old }
+        ensures clock_stays { self.old.failed ≡ true → clock.new ≡ clock.old }
+    {
+        let taken = self.take(alloc, shared, wire, clock)?;
+        let turn = self.give(alloc, shared, wire, taken)?;
+        Ok(turn)
+    }
+
+    /// The second half of a turn. The length of each session's inbound log is published; each connection
+    /// that isn't closed is written to, and is closed if it has ended. The next dial of a session whose dialled
+    /// connection ended in this turn is as much later as its wait. Without memory what was done stays, each
+    /// event whole, and from then on the engine does nothing more.
+    pub fn give<W: Dial>(
+        &mut self,
+        alloc: Global,
+        shared: &Shared,
+        wire: &mut W,
+        taken: Taken,
+    ) -> Result<Turn, NoMemory>
+        requires engine { IsEngine shared.now self.old (W.door wire.old) (W.link wire.old) }
+        ensures gives { IfOk result (λ turn. GivesTurn (W.link wire.old) (W.link wire.new) self.old self.new taken turn) }
+        ensures door { W.door wire.new ≡ W.door wire.old }
+        ensures engine { IsEngine shared.now self.new (W.door wire.new) (W.link wire.new) }
+        ensures goes_on { OnOk result (self.new.failed ≡ false) }
+        ensures failed { OnErr result (self.new.failed ≡ true) }
+        // An engine for which memory was wanting does nothing.
+        ensures stands_still { self.old.failed ≡ true → IsErr result }
+        ensures engine_stays { self.old.failed ≡ true → self.new ≡ self.old }
+        ensures wire_stays { self.old.failed ≡ true → wire.new ≡ wire.old }
+    {
+        if self.failed {
+            return Err(NoMemory::OutOfMemory);
+        }
+        match self.give_all(alloc, shared, wire) {
+            Ok(written) => Ok(Turn {
+                moment: taken.moment,
+                accepted: taken.accepted,
+                reads: taken.reads,
+                libs: taken.libs,
+                written: written as u64,
+            }),
+            Err(NoMemory::OutOfMemory) => {
+                self.failed = true;
+                Err(NoMemory::OutOfMemory)
+            }
+        }
+    }
+
+    /// What is published and written in a turn. Answers how many bytes were written.
+    fn give_all<W: Dial>(
+        &mut self,
+        alloc: Global,
+        shared: &Shared,
+        wire: &mut W,
+    ) -> Result<usize, NoMemory>
+        requires work { IsAtWork shared.now self.old }
+        requires online { IsOnline self.old (W.door wire.old) (W.link wire.old) }
+        ensures gives { IfOk result (λ bytes. GivesAll (W.link wire.old) (W.link wire.new) self.old self.new bytes) }
+        ensures door { W.door wire.new ≡ W.door wire.old }
+        ensures work { OnOk result (IsAtWork shared.now self.new) }
+        ensures online { OnOk result (IsOnline self.new (W.door wire.new) (W.link wire.new)) }
+        ensures agree { AllAgree self.new.sessions.desk.board self.new.sessions.desk.seat }
+        ensures failed { self.new.failed ≡ self.old.failed }
+    {
+        self.publish_all(shared);
+        let bytes = self.write_all(alloc, shared, wire)?;
+        Ok(bytes)
+    }
+
+    /// Each connection that isn't closed is written to, and is closed if it has ended.
+    fn write_all<W: Dial>(
+        &mut self,
+        alloc: Global,
+        shared: &Shared,
+        wire: &mut W,
+    ) -> Result<usize, NoMemory>
+        requires work { IsAtWork shared.now self.old }
+        requires online { IsOnline self.old (W.door wire.old) (W.link wire.old) }
+        ensures writes { IfOk result (λ bytes. WritesAll (W.link wire.old) (W.link wire.new) self.old self.new bytes) }
+        ensures door { W.door wire.new ≡ W.door wire.old }
+        ensures work { OnOk result (IsAtWork shared.now self.new) }
+        ensures online { OnOk result (IsOnline self.new (W.door wire.new) (W.link wire.new)) }
+        ensures agree { AllAgree self.new.sessions.desk.board self.new.sessions.desk.seat }
+        ensures failed { self.new.failed ≡ self.old.failed }
+    {
+        engines_stay();
+        places_stay_apart();
+        let desk = &mut self.sessions.desk;
+        let dialler = &mut self.dialler;
+        self.lines
+            .write_all_open(alloc, desk, &shared.leases, dialler, wire, self.moment)
+    }
+}
