@@ -1,5 +1,5 @@
 -- How many connections are listed that aren't closed.
-use Rattle.std.proofs.Common.{◌≡◌, ℕ, ◌+◌, ◌≤◌, List, [], ◌∷◌, ◌++◌, length, Option, None, Some, arith, sym, ap, subst}
+use Rattle.std.proofs.Common.{◌≡◌, ◌⊎◌, inl, inr, ℕ, zero, suc, ◌+◌, ◌<◌, ◌≤◌, List, [], ◌∷◌, ◌++◌, length, Option, None, Some, arith, refl, sym, ap, subst}
 use Rattle.std.proofs.lemmas.List.{length_push}
 use Rattle.std.specs.Prelude.{IfNone, IfSome}
 use Rattle.engine_loop.specs.Turns.{accepted_after}
@@ -59,3 +59,13 @@ pub accepted_stays : {S : Type 0} (door : S → Door) (answer : Option Dialled) 
 accepted_stays door None old new links unasked is = ap (λ s. (door s).accepted) unasked
 accepted_stays door (Some (dial.New number)) old new links unasked is = ap (λ (d : Door). d.accepted) is.1
 accepted_stays door (Some dial.Failed) old new links unasked is = ap (λ (d : Door). d.accepted) is.0
+
+-- one of the first so many and one more
+pub before_or_last : (j n : ℕ) → j < n + 1 → (j < n) ⊎ (j ≡ n)
+before_or_last zero zero small = inr refl
+before_or_last zero (suc n) small = inl (omega arith)
+before_or_last (suc j) zero small = absurd (omega arith)
+before_or_last (suc j) (suc n) small = elim (before_or_last j n (omega arith)) [
+  | inl less ↦ inl (omega arith)
+  | inr same ↦ inr (ap suc same)
+]

@@ -10,6 +10,7 @@ use Rattle.gate_io.specs.declared.wires.Accepted.{Accepted}
 use Rattle.gate_io.specs.declared.wires.Accepted.TheVariants.{Failed, New, Nothing}
 use Rattle.gate_io.specs.declared.dials.Dialled.{Dialled}
 use Rattle.gate_io.specs.declared.wires.WireGot.{WireGot}
+use Rattle.lease_core.specs.declared.record.Record.{Record}
 use Rattle.lease_desk.specs.Desk.{InTurn}
 use Rattle.lease_words.specs.Sees.{after_publish}
 use Rattle.lease_words.specs.Views.{engine_at, with_engine_at}
@@ -19,6 +20,7 @@ use Rattle.session_core.specs.declared.causes.Cause.{Cause}
 use Rattle.session_desk.specs.Steps.{Ticks, noted}
 use Rattle.switchboard.specs.Board.{book_at, connection_at}
 use Rattle.wire_desk.specs.Dials.{DialsAs, WaitBehindEnded}
+use Rattle.wire_desk.specs.Fresh.{AreHandedOut, fresh_records}
 use Rattle.wire_desk.specs.Lines.{standing}
 use Rattle.wire_desk.specs.Places.{dialled_behind, listed_behind, open_places}
 use Rattle.wire_desk.specs.Steps.{AcceptsAs, Reads, WritesInTurn, sessions_of, written_so_far}
@@ -160,3 +162,11 @@ pub record MakesTurn (reading : ℕ) (links_new : ℕ → Link) (old new : Engin
   pub links_middle : ℕ → Link
   pub takes : TakesTurn reading old middle taken
   pub gives : GivesTurn links_middle links_new middle new taken turn
+
+-- The records of the new entries of each session are handed out: all of them are noted before.
+pub record HandsOut (old new : Engine) (records : List Record) : Type 0 where
+  pub noted : Engine
+  pub notes : InTurn NotesSession (length old.sessions.desk.board.sessions) old noted
+  pub records_are : records ≡ fresh_records noted.sessions.desk.board noted.lines.unkept.items (length noted.sessions.desk.board.sessions)
+  pub handed : AreHandedOut noted.sessions.desk.board (length noted.sessions.desk.board.sessions) noted.lines.unkept.items new.lines.unkept.items
+  pub rest : new ≡ record noted { lines = record (noted.lines) { unkept = new.lines.unkept } }

@@ -6,6 +6,7 @@ ghost use Rattle.engine_loop.specs.declared.engine.Engine.{Engine};
 ghost use Rattle.gate_io.specs.Wire.{Door, Link};
 ghost use Rattle.lease_desk.specs.Desk.{GoesOn};
 ghost use Rattle.library_desk.specs.declared.shared.Shared.{Shared};
+ghost use Rattle.session_desk.specs.Steps.{AreNoted};
 ghost use Rattle.switchboard.specs.Board.{connection_at};
 ghost use Rattle.switchboard.specs.Going.{GoesOnTo, KeepsBytes};
 ghost use Rattle.wire_desk.specs.Lines.{IsSetUp};
@@ -23,6 +24,9 @@ pub fn engines_stay()
     ensures still { (old new : Engine) (door : Door) (links : ℕ → Link) → GoesOnTo old.sessions.desk.board new.sessions.desk.board → length new.sessions.desk.board.connections ≡ length old.sessions.desk.board.connections
         → ((k : ℕ) → k < length old.sessions.desk.board.connections → KeepsBytes (connection_at old.sessions.desk.board k) (connection_at new.sessions.desk.board k))
         → new.lines.accepted.items ≡ old.lines.accepted.items → new.lines.dialled.items ≡ old.lines.dialled.items → new.dialler ≡ old.dialler → new.accepted ≡ old.accepted → IsOnline old door links → IsOnline new door links }
+    // Entries are noted, or their records handed out.
+    ensures noted { (shared : Shared) (old new : Engine) → new ≡ record old { lines = record (old.lines) { unkept = new.lines.unkept } } → AreNoted new.lines.unkept.items new.sessions.desk.board → IsAtWork shared old → IsAtWork shared new }
+    ensures noted_online { (old new : Engine) (door : Door) (links : ℕ → Link) → new ≡ record old { lines = record (old.lines) { unkept = new.lines.unkept } } → IsOnline old door links → IsOnline new door links }
 {
     cursors_stay();
     lines_progress();

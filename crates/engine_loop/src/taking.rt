@@ -7,6 +7,7 @@ ghost use Rattle.gate_io.specs.Counts.{HasRisen};
 ghost use Rattle.lease_desk.specs.Desk.{AllAgree};
 
 use crate::engine::Engine;
+use crate::laws::engines_stay;
 use crate::records::Taken;
 use gate_io::{Clock, Dial, LAST_MOMENT, NoMemory, Rows};
 use library_desk::Shared;
@@ -67,6 +68,7 @@ impl Engine {
         ensures agree { AllAgree self.new.sessions.desk.board self.new.sessions.desk.seat }
         ensures failed { OnOk result (self.new.failed ≡ self.old.failed) }
     {
+        engines_stay();
         self.set_moment(shared, reading);
         let moment = self.moment;
         let accepted = self.accept_next(alloc, shared, wire)?;
@@ -74,7 +76,7 @@ impl Engine {
         let reads = self.read_all(alloc, shared, wire)?;
         self.tick_all(alloc, shared)?;
         let libs = self.serve_all(alloc, shared)?;
-        self.note_all(shared)?;
+        self.note_all()?;
         Ok(Taken {
             moment,
             accepted,

@@ -1,6 +1,8 @@
 use Rattle.std.proofs.Common.{◌≡◌, ℕ, ◌≤◌, ◌++◌, List, length, refl, sym, ap, subst, ◌∙◌, arith}
 use Rattle.catchup_pump.specs.declared.cursor.Cursor.{Cursor}
+use Rattle.engine_loop.specs.Engines.{IsAtWork, IsOnline}
 use Rattle.engine_loop.specs.declared.engine.Engine.{Engine}
+use Rattle.session_desk.specs.Steps.{AreNoted}
 use Rattle.gate_io.specs.declared.clocks.TheConstants.{LAST_MOMENT}
 use Rattle.gate_io.specs.declared.wires.TheConstants.{MOST_CONNECTIONS}
 use Rattle.lease_words.specs.Views.{TableRef}
@@ -52,3 +54,33 @@ returns-clause-still c = λ old new door links goes count bytes first last diall
       few_accepted = (let few = was.few_accepted in let count = ap (λ (ks : List ℕ). length ks) first in omega arith);
       few_dialled = (let few = was.few_dialled in let count = ap (λ (ks : List ℕ). length ks) last in let made = ap (λ (d : Dialler). d.made) dialler in omega arith);
     }
+
+pub returns-clause-noted : goal.returns-clause-noted
+returns-clause-noted c = λ shared old new rest noted was. (let set_up = was.set_up in subst (IsAtWork shared) (sym rest) (record {
+  linked = was.linked;
+  in_order = was.in_order;
+  set_up = record {
+    table = set_up.table;
+    depth = set_up.depth;
+    sessions = set_up.sessions;
+    few = set_up.few;
+    routes = set_up.routes;
+    few_routes = set_up.few_routes;
+    noted = subst (λ (e : Engine). AreNoted new.lines.unkept.items e.sessions.desk.board) rest noted;
+    steady = set_up.steady;
+    buffer = set_up.buffer;
+  };
+  moment = was.moment;
+  most = was.most;
+  few = was.few;
+}))
+
+pub returns-clause-noted_online : goal.returns-clause-noted_online
+returns-clause-noted_online c = λ old new door links rest was. subst (λ (e : Engine). IsOnline e door links) (sym rest) (record {
+  wired = was.wired;
+  dialling = was.dialling;
+  accepted = was.accepted;
+  apart = was.apart;
+  few_accepted = was.few_accepted;
+  few_dialled = was.few_dialled;
+})

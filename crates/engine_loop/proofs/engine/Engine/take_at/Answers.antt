@@ -11,7 +11,7 @@ pub returns-clause-online : goal.returns-clause-online
 returns-clause-online g c =
     let door = g.W.Wire.door c.read_all.new.wire in
     let links = g.W.Wire.link c.read_all.new.wire in
-    c.in_ok-note_all.ensures.online door links (c.in_ok-libs.ensures.online door links (c.in_ok-tick_all.ensures.online door links c.in_ok-reads.ensures.online))
+    c.engines_stay.ensures.noted_online c.serve_all.new.self c.note_all.new.self door links c.note_all.ensures.rest (c.in_ok-libs.ensures.online door links (c.in_ok-tick_all.ensures.online door links c.in_ok-reads.ensures.online))
 
 pub returns-clause-takes : goal.returns-clause-takes
 returns-clause-takes g c =
