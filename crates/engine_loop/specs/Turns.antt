@@ -1,14 +1,15 @@
 -- The steps of a turn.
-use Rattle.std.specs.Prelude.{◌≡◌, ℕ, ◌+◌, ◌<◌, ◌≤◌, ◌⊎◌, List, [], ◌∷◌, ◌++◌, length, max, min, slice_index_or, Option, None, Some}
+use Rattle.std.specs.Prelude.{◌≡◌, ℕ, ◌+◌, ◌<◌, ◌≤◌, ◌⊎◌, List, [], ◌∷◌, ◌++◌, length, max, min, slice_index_or, Option, None, Some, IfNone, IfSome}
 use Rattle.engine_loop.specs.Engines.{until_of}
 use Rattle.engine_loop.specs.declared.engine.Engine.{Engine}
 use Rattle.engine_loop.specs.declared.records.Taken.{Taken}
 use Rattle.engine_loop.specs.declared.records.Turn.{Turn}
-use Rattle.gate_io.specs.Wire.{Accepts, Door, Link}
+use Rattle.gate_io.specs.Wire.{Accepts, Dials as TheWireDials, Door, Link, LinkGoesOn, OthersStay, ReadHasCause, WireGivesFrom}
 use Rattle.gate_io.specs.declared.clocks.TheConstants.{LAST_MOMENT}
 use Rattle.gate_io.specs.declared.wires.Accepted.{Accepted}
 use Rattle.gate_io.specs.declared.wires.Accepted.TheVariants.{Failed, New, Nothing}
 use Rattle.gate_io.specs.declared.dials.Dialled.{Dialled}
+use Rattle.gate_io.specs.declared.wires.TheConstants.{FIRST_DIALLED}
 use Rattle.gate_io.specs.declared.wires.WireGot.{WireGot}
 use Rattle.lease_core.specs.declared.record.Record.{Record}
 use Rattle.lease_desk.specs.Desk.{InTurn}
@@ -35,29 +36,39 @@ accepted_after (New number) count = count + 1
 accepted_after Nothing count = count
 accepted_after Failed count = count
 
+-- an engine, and what the wire tells
+pub record AtWire : Type 0 where
+  pub engine : Engine
+  pub door : Door
+  pub links : ℕ → Link
+
+abbrev pub at_wire : Engine → Door → (ℕ → Link) → AtWire
+at_wire engine door links = record { engine = engine; door = door; links = links }
+
 -- The wire is asked for a connection, where fewer were accepted than the run has.
-pub record AsksForConnection (answer : Accepted) (old new : Engine) : Type 0 where
-  pub due : old.accepted < old.connections
-  pub accepts : AcceptsAs answer old.moment old.sessions.desk new.sessions.desk
-  pub lines : new.lines ≡ record (old.lines) { accepted = new.lines.accepted }
-  pub listed : new.lines.accepted.items ≡ listed_behind answer (length old.sessions.desk.board.connections) old.lines.accepted.items
-  pub counted : new.accepted ≡ accepted_after answer old.accepted
-  pub rest : new ≡ record old { sessions = record (old.sessions) { desk = new.sessions.desk }; lines = new.lines; accepted = new.accepted }
+pub record AsksForConnection (answer : Accepted) (old new : AtWire) : Type 0 where
+  pub due : old.engine.accepted < old.engine.connections
+  pub answers : Accepts old.door new.door new.links answer
+  pub others : OthersStay old.links new.links old.door.accepted
+  pub accepts : AcceptsAs answer old.engine.moment old.engine.sessions.desk new.engine.sessions.desk
+  pub lines : new.engine.lines ≡ record (old.engine.lines) { accepted = new.engine.lines.accepted }
+  pub listed : new.engine.lines.accepted.items ≡ listed_behind answer (length old.engine.sessions.desk.board.connections) old.engine.lines.accepted.items
+  pub counted : new.engine.accepted ≡ accepted_after answer old.engine.accepted
+  pub rest : new.engine ≡ record (old.engine) { sessions = record (old.engine.sessions) { desk = new.engine.sessions.desk }; lines = new.engine.lines; accepted = new.engine.accepted }
 
-abbrev pub AcceptsNext : Accepted → Engine → Engine → Type 0
-AcceptsNext answer old new = AsksForConnection answer old new ⊎ ((old.accepted ≡ old.connections) × ((answer ≡ Nothing) × (new ≡ old)))
+abbrev pub AcceptsNext : Accepted → AtWire → AtWire → Type 0
+AcceptsNext answer old new = AsksForConnection answer old new ⊎ ((old.engine.accepted ≡ old.engine.connections) × ((answer ≡ Nothing) × (new ≡ old)))
 
--- the wire's answer, where it was asked
-abbrev pub AnswersNext : Accepted → Engine → Door → Door → (ℕ → Link) → Type 0
-AnswersNext answer old before after links = ((old.accepted < old.connections) × Accepts before after links answer) ⊎ ((old.accepted ≡ old.connections) × (after ≡ before))
-
--- A session dials, where that is due.
-pub record DialsSession (s : ℕ) (old new : Engine) : Type 0 where
+-- A session dials, where that is due: only then the wire is asked.
+pub record DialsSession (s : ℕ) (old new : AtWire) : Type 0 where
   pub answer : Option Dialled
-  pub dials : DialsAs answer s old.moment (until_of old) old.sessions.desk new.sessions.desk old.dialler new.dialler
-  pub lines : new.lines ≡ record (old.lines) { dialled = new.lines.dialled }
-  pub listed : new.lines.dialled.items ≡ dialled_behind answer (length old.sessions.desk.board.connections) old.lines.dialled.items
-  pub rest : new ≡ record old { sessions = record (old.sessions) { desk = new.sessions.desk }; lines = new.lines; dialler = new.dialler }
+  pub answers : IfSome answer (λ dialled. TheWireDials old.door new.door new.links dialled)
+  pub unasked : IfNone answer ((new.door ≡ old.door) × (new.links ≡ old.links))
+  pub others : OthersStay old.links new.links (FIRST_DIALLED + old.door.dialled)
+  pub dials : DialsAs answer s old.engine.moment (until_of old.engine) old.engine.sessions.desk new.engine.sessions.desk old.engine.dialler new.engine.dialler
+  pub lines : new.engine.lines ≡ record (old.engine.lines) { dialled = new.engine.lines.dialled }
+  pub listed : new.engine.lines.dialled.items ≡ dialled_behind answer (length old.engine.sessions.desk.board.connections) old.engine.lines.dialled.items
+  pub rest : new.engine ≡ record (old.engine) { sessions = record (old.engine.sessions) { desk = new.engine.sessions.desk }; lines = new.engine.lines; dialler = new.engine.dialler }
 
 -- a session is gathered, and hears the clock
 pub record TicksSession (s : ℕ) (old new : Engine) : Type 0 where
@@ -65,18 +76,27 @@ pub record TicksSession (s : ℕ) (old new : Engine) : Type 0 where
   pub ticks : Ticks s old.moment (until_of old) old.sessions.desk new.sessions.desk end
   pub rest : new ≡ record old { sessions = record (old.sessions) { desk = new.sessions.desk } }
 
--- an engine, and what was answered so far
+-- an engine, what the wire tells of the connections, and what it answered so far
 pub record Reading : Type 0 where
   pub engine : Engine
+  pub links : ℕ → Link
   pub got : List (ℕ × WireGot)
 
-abbrev pub reading_of : Engine → List (ℕ × WireGot) → Reading
-reading_of engine got = record { engine = engine; got = got }
+abbrev pub reading_of : Engine → (ℕ → Link) → List (ℕ × WireGot) → Reading
+reading_of engine links got = record { engine = engine; links = links; got = got }
+
+-- what the wire does as it answers a read of a connection: other ones stay as they are
+pub record AnswersRead (number : ℕ) (answer : WireGot) (buffer : List ℕ) (old new : ℕ → Link) : Type 0 where
+  pub content : WireGivesFrom (old number).left answer buffer (new number).left
+  pub cause : ReadHasCause (old number) (new number) answer
+  pub goes_on : LinkGoesOn (old number) (new number)
+  pub others : OthersStay old new number
 
 -- A connection that stands is read once.
 pub record ReadsOne (k : ℕ) (old new : Reading) : Type 0 where
   pub answer : WireGot
   pub stands : (connection_at old.engine.sessions.desk.board k).cause ≡ None
+  pub answers : AnswersRead (connection_at old.engine.sessions.desk.board k).number answer new.engine.lines.buffer.items old.links new.links
   pub reads : Reads answer old.engine.lines.routes k new.engine.lines.buffer.items old.engine.moment (until_of old.engine)
       (sessions_of old.engine.sessions.desk old.engine.lines.unkept.items) (sessions_of new.engine.sessions.desk new.engine.lines.unkept.items)
   pub told : new.got ≡ old.got ++ ((connection_at old.engine.sessions.desk.board k).number, answer) ∷ []
@@ -111,19 +131,20 @@ abbrev pub NotesSession : ℕ → Engine → Engine → Type 0
 NotesSession s old new = (new.lines.unkept.items ≡ noted s old.sessions.desk.board old.lines.unkept.items) × (new ≡ record old { lines = record (old.lines) { unkept = new.lines.unkept } })
 
 -- The first half of a turn: one connection is accepted, sessions dial, each connection that stands is read, each session hears the clock, each library is served.
-pub record TakesTurn (reading : ℕ) (old new : Engine) (taken : Taken) : Type 0 where
-  pub accepted : Engine
-  pub dialled : Engine
+pub record TakesTurn (reading : ℕ) (old new : AtWire) (taken : Taken) : Type 0 where
+  pub accepted : AtWire
+  pub dialled : AtWire
   pub read : Engine
   pub ticked : Engine
   pub served : Engine
-  pub moment : taken.moment ≡ (with_moment reading old).moment
-  pub accepts : AcceptsNext taken.accepted (with_moment reading old) accepted
-  pub dials : InTurn DialsSession (length accepted.sessions.desk.board.sessions) accepted dialled
-  pub reads : ReadsAll (open_places dialled.lines) (reading_of dialled []) (reading_of read taken.reads)
+  pub moment : taken.moment ≡ (with_moment reading old.engine).moment
+  pub accepts : AcceptsNext taken.accepted (at_wire (with_moment reading old.engine) old.door old.links) accepted
+  pub dials : InTurn DialsSession (length accepted.engine.sessions.desk.board.sessions) accepted dialled
+  pub door : new.door ≡ dialled.door
+  pub reads : ReadsAll (open_places dialled.engine.lines) (reading_of dialled.engine dialled.links []) (reading_of read new.links taken.reads)
   pub ticks : InTurn TicksSession (length read.sessions.desk.board.sessions) read ticked
   pub serves : InTurn (λ i. ServesOne (i + 1)) (length ticked.sessions.ends.items) (serving_of ticked []) (serving_of served taken.libs)
-  pub notes : InTurn NotesSession (length served.sessions.desk.board.sessions) served new
+  pub notes : InTurn NotesSession (length served.sessions.desk.board.sessions) served new.engine
 
 -- the length of a session's inbound log is published
 pub record PublishesSession (s : ℕ) (old new : Engine) : Type 0 where
@@ -148,20 +169,20 @@ pub record GivesAll (links_old links_new : ℕ → Link) (old new : Engine) (byt
   pub writes : WritesAll links_old links_new published new bytes
 
 -- The second half of a turn: each session's messages are published, and each connection that isn't closed is written to.
-pub record GivesTurn (links_old links_new : ℕ → Link) (old new : Engine) (taken : Taken) (turn : Turn) : Type 0 where
-  pub gives : GivesAll links_old links_new old new turn.written
+pub record GivesTurn (old new : AtWire) (taken : Taken) (turn : Turn) : Type 0 where
+  pub gives : GivesAll old.links new.links old.engine new.engine turn.written
+  pub door : new.door ≡ old.door
   pub moment : turn.moment ≡ taken.moment
   pub accepted : turn.accepted ≡ taken.accepted
   pub reads : turn.reads ≡ taken.reads
   pub libs : turn.libs ≡ taken.libs
 
 -- A turn: what it took and what it gave.
-pub record MakesTurn (reading : ℕ) (links_new : ℕ → Link) (old new : Engine) (turn : Turn) : Type 0 where
+pub record MakesTurn (reading : ℕ) (old new : AtWire) (turn : Turn) : Type 0 where
   pub taken : Taken
-  pub middle : Engine
-  pub links_middle : ℕ → Link
+  pub middle : AtWire
   pub takes : TakesTurn reading old middle taken
-  pub gives : GivesTurn links_middle links_new middle new taken turn
+  pub gives : GivesTurn middle new taken turn
 
 -- The records of the new entries of each session are handed out: all of them are noted before.
 pub record HandsOut (old new : Engine) (records : List Record) : Type 0 where

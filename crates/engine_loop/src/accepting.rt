@@ -2,7 +2,7 @@
 
 ghost use Rattle.std.specs.Prelude.{◌≡◌, ◌<◌, IfOk, OnOk};
 ghost use Rattle.engine_loop.specs.Engines.{IsAtWork, IsOnline};
-ghost use Rattle.engine_loop.specs.Turns.{AcceptsNext, AnswersNext, AsksForConnection};
+ghost use Rattle.engine_loop.specs.Turns.{AcceptsNext, AsksForConnection, at_wire};
 ghost use Rattle.gate_io.specs.Wire.{Accepts};
 ghost use Rattle.lease_desk.specs.Desk.{AllAgree};
 
@@ -26,8 +26,7 @@ impl Engine {
     ) -> Result<Accepted, NoMemory>
         requires work { IsAtWork shared.now self.old }
         requires online { IsOnline self.old (W.door wire.old) (W.link wire.old) }
-        ensures accepts { IfOk result (λ answer. AcceptsNext answer self.old self.new) }
-        ensures answer { IfOk result (λ answer. AnswersNext answer self.old (W.door wire.old) (W.door wire.new) (W.link wire.new)) }
+        ensures accepts { IfOk result (λ answer. AcceptsNext answer (at_wire self.old (W.door wire.old) (W.link wire.old)) (at_wire self.new (W.door wire.new) (W.link wire.new))) }
         ensures work { OnOk result (IsAtWork shared.now self.new) }
         ensures failed { self.new.failed ≡ self.old.failed }
         ensures online { OnOk result (IsOnline self.new (W.door wire.new) (W.link wire.new)) }
@@ -49,7 +48,7 @@ impl Engine {
         requires work { IsAtWork shared.now self.old }
         requires online { IsOnline self.old (W.door wire.old) (W.link wire.old) }
         requires due { self.old.accepted < self.old.connections }
-        ensures accepts { IfOk result (λ answer. AsksForConnection answer self.old self.new) }
+        ensures accepts { IfOk result (λ answer. AsksForConnection answer (at_wire self.old (W.door wire.old) (W.link wire.old)) (at_wire self.new (W.door wire.new) (W.link wire.new))) }
         ensures answer { IfOk result (λ answer. Accepts (W.door wire.old) (W.door wire.new) (W.link wire.new) answer) }
         ensures work { OnOk result (IsAtWork shared.now self.new) }
         ensures failed { self.new.failed ≡ self.old.failed }

@@ -2,7 +2,7 @@
 
 ghost use Rattle.std.specs.Prelude.{◌≡◌, ◌<◌, length, OnOk};
 ghost use Rattle.engine_loop.specs.Engines.{IsAtWork, IsOnline};
-ghost use Rattle.engine_loop.specs.Turns.{DialsSession};
+ghost use Rattle.engine_loop.specs.Turns.{DialsSession, at_wire};
 ghost use Rattle.lease_desk.specs.Desk.{AllAgree, InTurn};
 
 use crate::engine::Engine;
@@ -22,7 +22,7 @@ impl Engine {
     ) -> Result<(), NoMemory>
         requires work { IsAtWork shared.now self.old }
         requires online { IsOnline self.old (W.door wire.old) (W.link wire.old) }
-        ensures dials { OnOk result (InTurn DialsSession (length self.old.sessions.desk.board.sessions) self.old self.new) }
+        ensures dials { OnOk result (InTurn DialsSession (length self.old.sessions.desk.board.sessions) (at_wire self.old (W.door wire.old) (W.link wire.old)) (at_wire self.new (W.door wire.new) (W.link wire.new))) }
         ensures work { OnOk result (IsAtWork shared.now self.new) }
         ensures failed { self.new.failed ≡ self.old.failed }
         ensures online { OnOk result (IsOnline self.new (W.door wire.new) (W.link wire.new)) }
@@ -45,7 +45,7 @@ impl Engine {
         requires work { IsAtWork shared.now self.old }
         requires online { IsOnline self.old (W.door wire.old) (W.link wire.old) }
         requires session { s < length self.old.sessions.desk.board.sessions }
-        ensures dials { OnOk result (DialsSession s self.old self.new) }
+        ensures dials { OnOk result (DialsSession s (at_wire self.old (W.door wire.old) (W.link wire.old)) (at_wire self.new (W.door wire.new) (W.link wire.new))) }
         ensures work { OnOk result (IsAtWork shared.now self.new) }
         ensures failed { self.new.failed ≡ self.old.failed }
         ensures online { OnOk result (IsOnline self.new (W.door wire.new) (W.link wire.new)) }

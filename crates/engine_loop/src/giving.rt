@@ -2,7 +2,7 @@
 
 ghost use Rattle.std.specs.Prelude.{◌≡◌, ◌≤◌, IfOk, IsErr, OnErr, OnOk, length, true, false};
 ghost use Rattle.engine_loop.specs.Engines.{IsAtWork, IsEngine, IsOnline};
-ghost use Rattle.engine_loop.specs.Turns.{GivesAll, GivesTurn, MakesTurn, WritesAll};
+ghost use Rattle.engine_loop.specs.Turns.{GivesAll, GivesTurn, MakesTurn, WritesAll, at_wire};
 ghost use Rattle.gate_io.specs.Counts.{HasRisen};
 ghost use Rattle.lease_desk.specs.Desk.{AllAgree};
 
@@ -24,7 +24,7 @@ impl Engine {
         clock: &mut C,
     ) -> Result<Turn, NoMemory>
         requires engine { IsEngine shared.now self.old (W.door wire.old) (W.link wire.old) }
-        ensures turns { IfOk result (λ turn. MakesTurn (C.last clock.new) (W.link wire.new) self.old self.new turn) }
+        ensures turns { IfOk result (λ turn. MakesTurn (C.last clock.new) (at_wire self.old (W.door wire.old) (W.link wire.old)) (at_wire self.new (W.door wire.new) (W.link wire.new)) turn) }
         ensures clock { OnOk result (HasRisen (C.readings clock.old) (C.readings clock.new)) }
         ensures engine { IsEngine shared.now self.new (W.door wire.new) (W.link wire.new) }
         ensures goes_on { OnOk result (self.new.failed ≡ false) }
@@ -52,8 +52,7 @@ impl Engine {
         taken: Taken,
     ) -> Result<Turn, NoMemory>
         requires engine { IsEngine shared.now self.old (W.door wire.old) (W.link wire.old) }
-        ensures gives { IfOk result (λ turn. GivesTurn (W.link wire.old) (W.link wire.new) self.old self.new taken turn) }
-        ensures door { W.door wire.new ≡ W.door wire.old }
+        ensures gives { IfOk result (λ turn. GivesTurn (at_wire self.old (W.door wire.old) (W.link wire.old)) (at_wire self.new (W.door wire.new) (W.link wire.new)) taken turn) }
         ensures engine { IsEngine shared.now self.new (W.door wire.new) (W.link wire.new) }
         ensures goes_on { OnOk result (self.new.failed ≡ false) }
         ensures failed { OnErr result (self.new.failed ≡ true) }

@@ -22,7 +22,7 @@ impl Engine {
     ) -> Result<Vec<(u32, WireGot)>, NoMemory>
         requires work { IsAtWork shared.now self.old }
         requires online { IsOnline self.old (W.door wire.old) (W.link wire.old) }
-        ensures reads { IfOk result (λ got. ReadsAll (open_places self.old.lines) (reading_of self.old []) (reading_of self.new got.items)) }
+        ensures reads { IfOk result (λ got. ReadsAll (open_places self.old.lines) (reading_of self.old (W.link wire.old) []) (reading_of self.new (W.link wire.new) got.items)) }
         ensures work { OnOk result (IsAtWork shared.now self.new) }
         ensures failed { self.new.failed ≡ self.old.failed }
         ensures online { OnOk result (IsOnline self.new (W.door wire.new) (W.link wire.new)) }
@@ -50,7 +50,7 @@ impl Engine {
         requires work { IsAtWork shared.now self.old }
         requires online { IsOnline self.old (W.door wire.old) (W.link wire.old) }
         requires connection { k < length self.old.sessions.desk.board.connections }
-        ensures reads { OnOk result (ReadsIfStands k (reading_of self.old got.old.items) (reading_of self.new got.new.items)) }
+        ensures reads { OnOk result (ReadsIfStands k (reading_of self.old (W.link wire.old) got.old.items) (reading_of self.new (W.link wire.new) got.new.items)) }
         ensures work { OnOk result (IsAtWork shared.now self.new) }
         ensures failed { self.new.failed ≡ self.old.failed }
         ensures online { OnOk result (IsOnline self.new (W.door wire.new) (W.link wire.new)) }

@@ -2,7 +2,7 @@
 
 ghost use Rattle.std.specs.Prelude.{◌≡◌, IfOk, IsErr, OnErr, OnOk, true, false};
 ghost use Rattle.engine_loop.specs.Engines.{IsAtWork, IsEngine, IsOnline};
-ghost use Rattle.engine_loop.specs.Turns.{TakesTurn, with_moment};
+ghost use Rattle.engine_loop.specs.Turns.{TakesTurn, at_wire, with_moment};
 ghost use Rattle.gate_io.specs.Counts.{HasRisen};
 ghost use Rattle.lease_desk.specs.Desk.{AllAgree};
 
@@ -27,7 +27,7 @@ impl Engine {
         clock: &mut C,
     ) -> Result<Taken, NoMemory>
         requires engine { IsEngine shared.now self.old (W.door wire.old) (W.link wire.old) }
-        ensures takes { IfOk result (λ taken. TakesTurn (C.last clock.new) self.old self.new taken) }
+        ensures takes { IfOk result (λ taken. TakesTurn (C.last clock.new) (at_wire self.old (W.door wire.old) (W.link wire.old)) (at_wire self.new (W.door wire.new) (W.link wire.new)) taken) }
         ensures clock { OnOk result (HasRisen (C.readings clock.old) (C.readings clock.new)) }
         ensures engine { IsEngine shared.now self.new (W.door wire.new) (W.link wire.new) }
         ensures goes_on { OnOk result (self.new.failed ≡ false) }
@@ -62,7 +62,7 @@ impl Engine {
     ) -> Result<Taken, NoMemory>
         requires work { IsAtWork shared.now self.old }
         requires online { IsOnline self.old (W.door wire.old) (W.link wire.old) }
-        ensures takes { IfOk result (λ taken. TakesTurn reading self.old self.new taken) }
+        ensures takes { IfOk result (λ taken. TakesTurn reading (at_wire self.old (W.door wire.old) (W.link wire.old)) (at_wire self.new (W.door wire.new) (W.link wire.new)) taken) }
         ensures work { OnOk result (IsAtWork shared.now self.new) }
         ensures online { OnOk result (IsOnline self.new (W.door wire.new) (W.link wire.new)) }
         ensures agree { AllAgree self.new.sessions.desk.board self.new.sessions.desk.seat }

@@ -61,6 +61,7 @@ impl Dialler {
         requires dialling { IsDialling desk.old.board (W.door wire.old) self.old }
         ensures unasked { IfOk result (λ answer. IfNone answer (wire.new ≡ wire.old)) }
         ensures answer { IfOk result (λ answer. IfSome answer (λ dialled. TheWireDials (W.door wire.old) (W.door wire.new) (W.link wire.new) dialled)) }
+        ensures others { OthersStay (W.link wire.old) (W.link wire.new) (FIRST_DIALLED + (W.door wire.old).dialled) }
         ensures address { IfOk result (λ answer. IfSome answer (λ dialled. IfSome (plan_at self.old s) (λ plan. W.dial_gives wire.old plan.address dialled wire.new))) }
         ensures dials { IfOk result (λ answer. DialsAs answer s at until desk.old desk.new self.old self.new) }
         ensures proceeds { OnOk result (Proceeds desk.old.board desk.new.board) }

@@ -1,4 +1,5 @@
 use Rattle.std.proofs.Common.{add-one, ◌∙◌}
+use Rattle.engine_loop.specs.Turns.{at_wire}
 use Rattle.engine_loop.proofs.engine.Engine.dial_all.Goals as goal
 
 pub loop-s-preserved : goal.loop-s-preserved
@@ -6,7 +7,7 @@ loop-s-preserved g c =
     let was = c.loop-s.invariant in
     let now = c.in_ok-dial_session.ensures in
     record {
-      turn = rw add-one (c.loop-s.self, was.turn, now.dials);
+      turn = rw add-one (at_wire c.loop-s.self (g.W.Wire.door c.loop-s.wire) (g.W.Wire.link c.loop-s.wire), was.turn, now.dials);
       work = now.work;
       online = now.online;
       count = now.count ∙ was.count;

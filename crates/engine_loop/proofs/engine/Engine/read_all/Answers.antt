@@ -9,8 +9,8 @@ pub loop-i-preserved : goal.loop-i-preserved
 loop-i-preserved g c =
     let was = c.loop-i.invariant in
     let now = c.in_ok-read_place.ensures in
-    let old = reading_of c.loop-i.self c.loop-i.got.items in
-    let new = reading_of c.read_place.new.self c.read_place.new.got.items in
+    let old = reading_of c.loop-i.self (g.W.Wire.link c.loop-i.wire) c.loop-i.got.items in
+    let new = reading_of c.read_place.new.self (g.W.Wire.link c.read_place.new.wire) c.read_place.new.got.items in
     record {
       turn = rw add-one (old, was.turn, subst (λ n. ReadsIfStands n old new) (c.open_place-k.ensures ∙ ap (λ (places : List ℕ). slice_index_or places c.loop-i.i 0) was.places) now.reads);
       work = now.work;
@@ -23,7 +23,7 @@ loop-i-preserved g c =
 pub returns-clause-reads : goal.returns-clause-reads
 returns-clause-reads g c =
     let places = open_places c.args.self.now.lines in
-    let start = reading_of c.args.self.now [] in
-    let last = reading_of c.loop-i.self c.loop-i.got.items in
+    let start = reading_of c.args.self.now (g.W.Wire.link c.args.wire.now) [] in
+    let last = reading_of c.loop-i.self (g.W.Wire.link c.loop-i.wire) c.loop-i.got.items in
     let all : c.loop-i.i ≡ length places = (let least = c.loop-i-test.false in let most = c.loop-i.auto.i-end in let count = c.open_count-count.ensures in omega arith) in
     subst (λ n. InTurn (λ i. ReadsIfStands (slice_index_or places i 0)) n start last) all c.loop-i.invariant.turn

@@ -8,7 +8,7 @@ use Rattle.engine_loop.proofs.engine.Engine.read_all.Given as goal
 
 abbrev pub invariant-loop-i : goal.invariant-loop-i
 invariant-loop-i g l = record {
-  turn : InTurn (λ i. ReadsIfStands (slice_index_or (open_places l.initial.self.lines) i 0)) l.i (reading_of l.initial.self []) (reading_of l.self l.got.items);
+  turn : InTurn (λ i. ReadsIfStands (slice_index_or (open_places l.initial.self.lines) i 0)) l.i (reading_of l.initial.self (g.W.Wire.link l.initial.wire) []) (reading_of l.self (g.W.Wire.link l.wire) l.got.items);
   work : IsAtWork l.shared l.self;
   online : IsOnline l.self (g.W.Wire.door l.wire) (g.W.Wire.link l.wire);
   places : open_places l.self.lines ≡ open_places l.initial.self.lines;
