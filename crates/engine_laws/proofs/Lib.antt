@@ -1,0 +1,9 @@
+mod Accounting
+mod Changed
+mod Connections
+mod Happened
+mod Libraries
+mod Lines
+mod Sessions
+mod Standing
+mod Turns

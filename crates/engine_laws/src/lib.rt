@@ -1,0 +1,7 @@
+//! The account of a turn: whatever the engine does, each session's journal tells exactly the acts of the
+//! messages that were handled of its connections, and those are the good pieces that were cut of what came.
+//!
+//! It has no code, only laws of the definitions of the crates below.
+#![tactic(auto)]
+
+pub mod laws;
