@@ -1,18 +1,21 @@
--- The first half of a turn is accounted for.
+-- A turn is accounted for.
 use Rattle.std.proofs.Common.{◌≡◌, inl, inr, ℕ, ◌+◌, ◌≤◌, List, [], length, refl, sym, ap, subst, ◌∙◌, arith}
 use Rattle.std.specs.Prelude.{slice_index_or}
 use Rattle.engine_laws.specs.Account.{IsAccountedFor, StaysAccountedFor, all_done}
 use Rattle.engine_laws.specs.Turns.{EngineStaysAccountedFor, board_of}
 use Rattle.engine_laws.proofs.Accounting.{AccountLaws, each_in_turn}
 use Rattle.engine_laws.proofs.Libraries.{served}
-use Rattle.engine_laws.proofs.Lines.{accepted_as, dialled_as, read}
+use Rattle.engine_laws.proofs.Lines.{accepted_as, dialled_as, read, written_in_turn}
 use Rattle.engine_laws.proofs.Sessions.{ticked}
 use Rattle.engine_loop.specs.Engines.{until_of}
-use Rattle.engine_loop.specs.Turns.{AcceptsNext, AtWire, DialsSession, NotesSession, Reading, ReadsIfStands, ServesOne, Serving, TakesTurn, TicksSession, at_wire, reading_of, serving_of, with_moment}
+use Rattle.engine_loop.specs.Turns.{AcceptsNext, AtWire, DialsSession, GivesTurn, HandsOut, MakesTurn, NotesSession, PublishesSession, Reading, ReadsIfStands, ServesOne, Serving, TakesTurn, TicksSession, WritesAll, at_wire, reading_of, serving_of, with_moment}
 use Rattle.engine_loop.specs.declared.engine.Engine.{Engine}
 use Rattle.engine_loop.specs.declared.records.Taken.{Taken}
+use Rattle.engine_loop.specs.declared.records.Turn.{Turn}
+use Rattle.gate_io.specs.Wire.{Link}
 use Rattle.gate_io.specs.declared.wires.Accepted.{Accepted}
 use Rattle.lease_core.specs.declared.entry.Entry.{Entry}
+use Rattle.lease_core.specs.declared.record.Record.{Record}
 use Rattle.lease_desk.specs.Desk.{InTurn}
 use Rattle.library_desk.specs.Happening.{RunsFor}
 use Rattle.library_desk.specs.Serving.{Serves}
@@ -21,6 +24,7 @@ use Rattle.library_desk.specs.declared.serving.LibTurn.{LibTurn}
 use Rattle.session_core.specs.State.{State}
 use Rattle.switchboard.specs.Ready.{IsReady}
 use Rattle.wire_desk.specs.Places.{open_places}
+use Rattle.wire_desk.specs.Steps.{written_so_far}
 
 module _ (g : AccountLaws) where
   -- nothing happens
@@ -72,6 +76,40 @@ module _ (g : AccountLaws) where
   pub session_noted : (s : ℕ) (old new : Engine) → NotesSession s old new → EngineStaysAccountedFor old new
   session_noted s old new is = stays old new (ap (λ (e : Engine). e.moment) is.1) (ap board_of is.1)
 
+  pub session_published : (s : ℕ) (old new : Engine) → PublishesSession s old new → EngineStaysAccountedFor old new
+  session_published s old new is = stays old new (ap (λ (e : Engine). e.moment) is.rest) is.board
+
+  pub all_written : (links_old links_new : ℕ → Link) (old new : Engine) (bytes : ℕ) → WritesAll links_old links_new old new bytes → EngineStaysAccountedFor old new
+  all_written links_old links_new old new bytes is =
+      let places = open_places old.lines in
+      record {
+        moment = ap (λ (e : Engine). e.moment) is.rest;
+        board = written_in_turn g places (length places) old.moment (written_so_far old.sessions.desk old.lines.unkept.items links_old 0)
+            (written_so_far new.sessions.desk old.lines.unkept.items links_new bytes) is.writes;
+      }
+
+  -- the second half of a turn
+  turn_given : (old new : AtWire) (taken : Taken) (turn : Turn) → GivesTurn old new taken turn → EngineStaysAccountedFor old.engine new.engine
+  turn_given old new taken turn is =
+      let gives = is.gives in
+      step_further old.engine gives.published new.engine (engine_in_turn PublishesSession (length old.engine.sessions.desk.board.sessions) old.engine gives.published session_published gives.publishes)
+      (all_written old.links new.links gives.published new.engine turn.written gives.writes)
+
+  pub records_handed_out : (old new : Engine) (records : List Record) → HandsOut old new records → EngineStaysAccountedFor old new
+  records_handed_out old new records is =
+      let noted = is.noted in
+      step_further old noted new (engine_in_turn NotesSession (length old.sessions.desk.board.sessions) old noted session_noted is.notes)
+      (stays noted new (ap (λ (e : Engine). e.moment) is.rest) (ap board_of is.rest))
+
+  -- a turn from its moment on
+  turn_later : (reading : ℕ) (old new : Engine) → EngineStaysAccountedFor (with_moment reading old) new → old.moment ≤ new.moment
+  turn_later reading old new steps = (let moment = steps.moment in omega arith)
+
+  turn_accounted : (before : ℕ → List Entry) (start : ℕ → State) (reading : ℕ) (old new : Engine) → EngineStaysAccountedFor (with_moment reading old) new → IsReady before (board_of old)
+      → IsAccountedFor before start old.moment (board_of old) → IsAccountedFor before start new.moment (board_of new)
+  turn_accounted before start reading old new steps ready accounted =
+      subst (λ at. IsAccountedFor before start at (board_of new)) (sym steps.moment) (steps.board.account before start old.moment (omega arith) ready accounted)
+
   module _ (serves : (library at until : ℕ) (old new : LibraryDesk) (turn : LibTurn) → Serves library at until old new turn → RunsFor at old.desk.board new.desk.board) where
     pub one_served : (library : ℕ) (old new : Serving) → ServesOne library old new → EngineStaysAccountedFor old.engine new.engine
     one_served library old new is = record {
@@ -100,21 +138,35 @@ module _ (g : AccountLaws) where
         (λ i a b. one_served (i + 1) a b) (length is.ticked.sessions.ends.items) (serving_of is.ticked []) (serving_of is.served taken.libs) is.serves)
         (engine_in_turn NotesSession (length is.served.sessions.desk.board.sessions) is.served new.engine session_noted is.notes)))))
 
-    turn_taken : (reading : ℕ) (old new : AtWire) (taken : Taken) → TakesTurn reading old new taken → StaysAccountedFor new.engine.moment (board_of old.engine) (board_of new.engine)
-    turn_taken reading old new taken is =
-        let steps = steps_taken reading old new taken is in
-        subst (λ at. StaysAccountedFor at (board_of old.engine) (board_of new.engine)) (sym steps.moment) steps.board
+    -- the whole of it
+    steps_made : (reading : ℕ) (old new : AtWire) (turn : Turn) → MakesTurn reading old new turn → EngineStaysAccountedFor (with_moment reading old.engine) new.engine
+    steps_made reading old new turn is =
+        let middle = is.middle in
+        step_further (with_moment reading old.engine) middle.engine new.engine (steps_taken reading old middle is.taken is.takes) (turn_given middle new is.taken turn is.gives)
 
-    pub turn_time : (reading : ℕ) (old new : AtWire) (taken : Taken) → TakesTurn reading old new taken → (new.engine.moment ≡ taken.moment) × (old.engine.moment ≤ new.engine.moment)
-    turn_time reading old new taken is =
+    pub takes_moment : (reading : ℕ) (old new : AtWire) (taken : Taken) → TakesTurn reading old new taken → (new.engine.moment ≡ taken.moment) × (old.engine.moment ≤ new.engine.moment)
+    takes_moment reading old new taken is =
         let moment = is.moment in
-        let now = (steps_taken reading old new taken is).moment in
-        (now ∙ sym moment, omega arith)
+        let steps = steps_taken reading old new taken is in
+        (steps.moment ∙ sym moment, turn_later reading old.engine new.engine steps)
 
-    pub turn_ready : (before : ℕ → List Entry) (reading : ℕ) (old new : AtWire) (taken : Taken) → TakesTurn reading old new taken → IsReady before (board_of old.engine) → IsReady before (board_of new.engine)
-    turn_ready before reading old new taken is ready = (turn_taken reading old new taken is).ready before ready
+    pub takes_ready : (before : ℕ → List Entry) (reading : ℕ) (old new : AtWire) (taken : Taken) → TakesTurn reading old new taken → IsReady before (board_of old.engine) → IsReady before (board_of new.engine)
+    takes_ready before reading old new taken is ready = (steps_taken reading old new taken is).board.ready before ready
 
-    pub turn_accounted : (before : ℕ → List Entry) (start : ℕ → State) (reading : ℕ) (old new : AtWire) (taken : Taken) → TakesTurn reading old new taken → IsReady before (board_of old.engine)
+    pub takes_account : (before : ℕ → List Entry) (start : ℕ → State) (reading : ℕ) (old new : AtWire) (taken : Taken) → TakesTurn reading old new taken → IsReady before (board_of old.engine)
         → IsAccountedFor before start old.engine.moment (board_of old.engine) → IsAccountedFor before start new.engine.moment (board_of new.engine)
-    turn_accounted before start reading old new taken is ready accounted =
-        (turn_taken reading old new taken is).account before start old.engine.moment (turn_time reading old new taken is).1 ready accounted
+    takes_account before start reading old new taken is = turn_accounted before start reading old.engine new.engine (steps_taken reading old new taken is)
+
+    pub turn_moment : (reading : ℕ) (old new : AtWire) (turn : Turn) → MakesTurn reading old new turn → (new.engine.moment ≡ turn.moment) × (old.engine.moment ≤ new.engine.moment)
+    turn_moment reading old new turn is =
+        let takes = is.takes in
+        let gives = is.gives in
+        let steps = steps_made reading old new turn is in
+        (steps.moment ∙ sym takes.moment ∙ sym gives.moment, turn_later reading old.engine new.engine steps)
+
+    pub turn_ready : (before : ℕ → List Entry) (reading : ℕ) (old new : AtWire) (turn : Turn) → MakesTurn reading old new turn → IsReady before (board_of old.engine) → IsReady before (board_of new.engine)
+    turn_ready before reading old new turn is ready = (steps_made reading old new turn is).board.ready before ready
+
+    pub turn_account : (before : ℕ → List Entry) (start : ℕ → State) (reading : ℕ) (old new : AtWire) (turn : Turn) → MakesTurn reading old new turn → IsReady before (board_of old.engine)
+        → IsAccountedFor before start old.engine.moment (board_of old.engine) → IsAccountedFor before start new.engine.moment (board_of new.engine)
+    turn_account before start reading old new turn is = turn_accounted before start reading old.engine new.engine (steps_made reading old new turn is)

@@ -5,9 +5,10 @@ ghost use Rattle.std.specs.List.{All};
 ghost use Rattle.engine_config.specs.declared.config.Config.{Config};
 ghost use Rattle.engine_laws.specs.Account.{IsAccountedFor, IsAside, KeepsAccount, Progress, StaysAccountedFor, all_done, cutting, handling, only};
 ghost use Rattle.engine_laws.specs.Turns.{EngineStaysAccountedFor, board_of};
-ghost use Rattle.engine_loop.specs.Turns.{AcceptsNext, AtWire, DialsSession, NotesSession, Reading, ReadsIfStands, ServesOne, Serving, TakesTurn, TicksSession};
+ghost use Rattle.engine_loop.specs.Turns.{AcceptsNext, AtWire, DialsSession, HandsOut, MakesTurn, NotesSession, PublishesSession, Reading, ReadsIfStands, ServesOne, Serving, TakesTurn, TicksSession, WritesAll};
 ghost use Rattle.engine_loop.specs.declared.engine.Engine.{Engine};
 ghost use Rattle.engine_loop.specs.declared.records.Taken.{Taken};
+ghost use Rattle.engine_loop.specs.declared.records.Turn.{Turn};
 ghost use Rattle.engine_start.specs.Starts.{StartsSessions};
 ghost use Rattle.fix_frame.specs.Cut.{cut};
 ghost use Rattle.fix_frame.specs.declared.layout.TheConstants.{LONGEST_FRAME};
@@ -16,6 +17,7 @@ ghost use Rattle.gate_io.specs.declared.dials.Dialled.{Dialled};
 ghost use Rattle.gate_io.specs.declared.wires.Accepted.{Accepted};
 ghost use Rattle.gate_io.specs.declared.wires.WireGot.{WireGot};
 ghost use Rattle.lease_core.specs.declared.entry.Entry.{Entry};
+ghost use Rattle.lease_core.specs.declared.record.Record.{Record};
 ghost use Rattle.lease_desk.specs.Desk.{Gathers};
 ghost use Rattle.lease_desk.specs.declared.desk.LeaseDesk.{LeaseDesk};
 ghost use Rattle.library_desk.specs.Happening.{RunsFor};
@@ -51,7 +53,7 @@ pub fn happenings_are_accounted_for()
     ensures itself { (progress : ℕ → Progress) (at : ℕ) (board : Board) → KeepsAccount progress progress at board board }
     ensures further { (one two three : ℕ → Progress) (at : ℕ) (first second third : Board) → KeepsAccount one two at first second → KeepsAccount two three at second third
         → KeepsAccount one three at first third }
-    // No connection comes, no piece is handed out, and no message is handled.
+    // Neither a connection comes, nor do bytes, nor is a piece handed out or a message handled.
     ensures aside { (progress : ℕ → Progress) (at : ℕ) (happenings : List Happening) (old new : Board) → All (IsAside at) happenings → Reaches happenings old new
         → KeepsAccount progress progress at old new }
     // A connection comes.
@@ -149,23 +151,38 @@ pub fn starts_are_accounted_for()
     happenings_are_accounted_for();
 }
 
-/// What the engine does in the first half of a turn is accounted for at the moment of the turn, step by
-/// step and as a whole.
-pub fn turns_are_accounted_for()
+/// Each step of a turn is accounted for at the moment of the turn.
+pub fn steps_are_accounted_for()
     ensures accepts { (answer : Accepted) (old new : AtWire) → AcceptsNext answer old new → EngineStaysAccountedFor old.engine new.engine }
     ensures dials { (s : ℕ) (old new : AtWire) → DialsSession s old new → EngineStaysAccountedFor old.engine new.engine }
     ensures reads { (k : ℕ) (old new : Reading) → ReadsIfStands k old new → EngineStaysAccountedFor old.engine new.engine }
     ensures ticks { (s : ℕ) (old new : Engine) → TicksSession s old new → EngineStaysAccountedFor old new }
     ensures serves { (library : ℕ) (old new : Serving) → ServesOne library old new → EngineStaysAccountedFor old.engine new.engine }
     ensures notes { (s : ℕ) (old new : Engine) → NotesSession s old new → EngineStaysAccountedFor old new }
+    ensures publishes { (s : ℕ) (old new : Engine) → PublishesSession s old new → EngineStaysAccountedFor old new }
+    ensures writes { (links_old links_new : ℕ → Link) (old new : Engine) (bytes : ℕ) → WritesAll links_old links_new old new bytes → EngineStaysAccountedFor old new }
+    // Behind a turn the records of new entries are handed out.
+    ensures hands_out { (old new : Engine) (records : List Record) → HandsOut old new records → EngineStaysAccountedFor old new }
     // One step behind another.
     ensures further { (first second third : Engine) → EngineStaysAccountedFor first second → EngineStaysAccountedFor second third → EngineStaysAccountedFor first third }
-    // The turn: its moment is no earlier than that of the turn before, sessions and connections stay ready, and all
-    // that happened up to then is accounted for.
-    ensures moment { (reading : ℕ) (old new : AtWire) (taken : Taken) → TakesTurn reading old new taken → (new.engine.moment ≡ taken.moment) × (old.engine.moment ≤ new.engine.moment) }
-    ensures ready { (before : ℕ → List Entry) (reading : ℕ) (old new : AtWire) (taken : Taken) → TakesTurn reading old new taken → IsReady before (board_of old.engine)
+{
+    serving_happens();
+    happenings_are_accounted_for();
+}
+
+/// The moment of a turn is no earlier than that of the turn before. Behind it sessions and connections are
+/// ready, and all that happened up to then is accounted for, where it was so before.
+pub fn turns_are_accounted_for()
+    // The first half of a turn.
+    ensures takes_moment { (reading : ℕ) (old new : AtWire) (taken : Taken) → TakesTurn reading old new taken → (new.engine.moment ≡ taken.moment) × (old.engine.moment ≤ new.engine.moment) }
+    ensures takes_ready { (before : ℕ → List Entry) (reading : ℕ) (old new : AtWire) (taken : Taken) → TakesTurn reading old new taken → IsReady before (board_of old.engine)
         → IsReady before (board_of new.engine) }
-    ensures account { (before : ℕ → List Entry) (start : ℕ → State) (reading : ℕ) (old new : AtWire) (taken : Taken) → TakesTurn reading old new taken → IsReady before (board_of old.engine)
+    ensures takes_account { (before : ℕ → List Entry) (start : ℕ → State) (reading : ℕ) (old new : AtWire) (taken : Taken) → TakesTurn reading old new taken → IsReady before (board_of old.engine)
+        → IsAccountedFor before start old.engine.moment (board_of old.engine) → IsAccountedFor before start new.engine.moment (board_of new.engine) }
+    // The whole.
+    ensures moment { (reading : ℕ) (old new : AtWire) (turn : Turn) → MakesTurn reading old new turn → (new.engine.moment ≡ turn.moment) × (old.engine.moment ≤ new.engine.moment) }
+    ensures ready { (before : ℕ → List Entry) (reading : ℕ) (old new : AtWire) (turn : Turn) → MakesTurn reading old new turn → IsReady before (board_of old.engine) → IsReady before (board_of new.engine) }
+    ensures account { (before : ℕ → List Entry) (start : ℕ → State) (reading : ℕ) (old new : AtWire) (turn : Turn) → MakesTurn reading old new turn → IsReady before (board_of old.engine)
         → IsAccountedFor before start old.engine.moment (board_of old.engine) → IsAccountedFor before start new.engine.moment (board_of new.engine) }
 {
     serving_happens();

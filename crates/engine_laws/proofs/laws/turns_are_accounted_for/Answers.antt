@@ -1,5 +1,5 @@
 use Rattle.engine_laws.proofs.Accounting.{AccountLaws}
-use Rattle.engine_laws.proofs.Turns.{next_accepted, one_read, one_served, session_dialled, session_noted, session_ticked, step_further, turn_accounted, turn_ready, turn_time}
+use Rattle.engine_laws.proofs.Turns.{takes_account, takes_moment, takes_ready, turn_account, turn_moment, turn_ready}
 use Rattle.engine_laws.proofs.laws.turns_are_accounted_for.Goals as goal
 
 laws : goal.After-happenings_are_accounted_for → AccountLaws
@@ -22,32 +22,20 @@ laws c =
       refuses = are.refuses;
     }
 
-pub returns-clause-accepts : goal.returns-clause-accepts
-returns-clause-accepts c = next_accepted (laws c)
+pub returns-clause-takes_moment : goal.returns-clause-takes_moment
+returns-clause-takes_moment c = takes_moment (laws c) c.serving_happens.ensures.serves
 
-pub returns-clause-dials : goal.returns-clause-dials
-returns-clause-dials c = session_dialled (laws c)
+pub returns-clause-takes_ready : goal.returns-clause-takes_ready
+returns-clause-takes_ready c = takes_ready (laws c) c.serving_happens.ensures.serves
 
-pub returns-clause-reads : goal.returns-clause-reads
-returns-clause-reads c = one_read (laws c)
-
-pub returns-clause-ticks : goal.returns-clause-ticks
-returns-clause-ticks c = session_ticked (laws c)
-
-pub returns-clause-serves : goal.returns-clause-serves
-returns-clause-serves c = one_served (laws c) c.serving_happens.ensures.serves
-
-pub returns-clause-notes : goal.returns-clause-notes
-returns-clause-notes c = session_noted (laws c)
-
-pub returns-clause-further : goal.returns-clause-further
-returns-clause-further c = step_further (laws c)
+pub returns-clause-takes_account : goal.returns-clause-takes_account
+returns-clause-takes_account c = takes_account (laws c) c.serving_happens.ensures.serves
 
 pub returns-clause-moment : goal.returns-clause-moment
-returns-clause-moment c = turn_time (laws c) c.serving_happens.ensures.serves
+returns-clause-moment c = turn_moment (laws c) c.serving_happens.ensures.serves
 
 pub returns-clause-ready : goal.returns-clause-ready
 returns-clause-ready c = turn_ready (laws c) c.serving_happens.ensures.serves
 
 pub returns-clause-account : goal.returns-clause-account
-returns-clause-account c = turn_accounted (laws c) c.serving_happens.ensures.serves
+returns-clause-account c = turn_account (laws c) c.serving_happens.ensures.serves
