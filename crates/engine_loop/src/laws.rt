@@ -1,7 +1,7 @@
 //! Laws of the definitions. Each is the contract of a function that does nothing.
 
 ghost use Rattle.std.specs.Prelude.{◌≡◌, ◌<◌, ℕ, length};
-ghost use Rattle.engine_loop.specs.Engines.{IsAtWork, IsOnline};
+ghost use Rattle.engine_loop.specs.Engines.{IsAtWork, IsEngine, IsOnline};
 ghost use Rattle.engine_loop.specs.declared.engine.Engine.{Engine};
 ghost use Rattle.gate_io.specs.Wire.{Door, Link};
 ghost use Rattle.lease_desk.specs.Desk.{GoesOn};
@@ -9,11 +9,11 @@ ghost use Rattle.library_desk.specs.declared.shared.Shared.{Shared};
 ghost use Rattle.session_desk.specs.Steps.{AreNoted};
 ghost use Rattle.switchboard.specs.Board.{connection_at};
 ghost use Rattle.switchboard.specs.Going.{GoesOnTo, KeepsBytes};
-ghost use Rattle.wire_desk.specs.Lines.{IsSetUp};
+ghost use Rattle.wire_desk.specs.Lines.{IsSetUp, KnowsAsBefore};
 
 use library_desk::laws::cursors_stay;
 use wire_desk::dialling_goes_on;
-use wire_desk::laws::lines_progress;
+use wire_desk::laws::{lines_progress, wires_stay_known};
 
 /// An engine stays at work, and its connections on the wire.
 pub fn engines_stay()
@@ -24,6 +24,8 @@ pub fn engines_stay()
     ensures still { (old new : Engine) (door : Door) (links : ℕ → Link) → GoesOnTo old.sessions.desk.board new.sessions.desk.board → length new.sessions.desk.board.connections ≡ length old.sessions.desk.board.connections
         → ((k : ℕ) → k < length old.sessions.desk.board.connections → KeepsBytes (connection_at old.sessions.desk.board k) (connection_at new.sessions.desk.board k))
         → new.lines.accepted.items ≡ old.lines.accepted.items → new.lines.dialled.items ≡ old.lines.dialled.items → new.dialler ≡ old.dialler → new.accepted ≡ old.accepted → IsOnline old door links → IsOnline new door links }
+    // What comes to the wire between two calls.
+    ensures known { (shared : Shared) (e : Engine) (before after : Door) (old new : ℕ → Link) → KnowsAsBefore before after old new → IsEngine shared e before old → IsEngine shared e after new }
     // Entries are noted, or their records handed out.
     ensures noted { (shared : Shared) (old new : Engine) → new ≡ record old { lines = record (old.lines) { unkept = new.lines.unkept } } → AreNoted new.lines.unkept.items new.sessions.desk.board → IsAtWork shared old → IsAtWork shared new }
     ensures noted_online { (old new : Engine) (door : Door) (links : ℕ → Link) → new ≡ record old { lines = record (old.lines) { unkept = new.lines.unkept } } → IsOnline old door links → IsOnline new door links }
@@ -31,4 +33,5 @@ pub fn engines_stay()
     cursors_stay();
     lines_progress();
     dialling_goes_on();
+    wires_stay_known();
 }

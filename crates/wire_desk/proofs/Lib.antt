@@ -6,3 +6,4 @@ pub mod OneByOne
 pub mod Writes
 pub mod OnWire
 pub mod Turn
+pub mod Known

@@ -4,6 +4,7 @@ use Rattle.std.specs.List.{All, Contains, filter}
 use Rattle.connection_core.specs.Connection.{ConnectionState, room}
 use Rattle.connection_core.specs.Outgoing.{written_text}
 use Rattle.connection_core.specs.declared.limits.TheConstants.{MOST_READ}
+use Rattle.gate_io.specs.MemWire.{WireState, door_of, link_at}
 use Rattle.gate_io.specs.Wire.{Door, Link}
 use Rattle.gate_io.specs.declared.wires.TheConstants.{FIRST_DIALLED}
 use Rattle.lease_desk.specs.declared.desk.LeaseDesk.{LeaseDesk}
@@ -60,3 +61,14 @@ pub record IsSetUp (leases : TableRef) (desk : LeaseDesk) (w : WireDesk) : Type 
   pub noted : AreNoted w.unkept.items desk.board
   pub steady : IsSteady desk.board desk.seat
   pub buffer : length w.buffer.items ≡ MOST_READ
+
+-- the wire tells of its connections as before how many there are, which are closed and what was written
+pub record KnowsAsBefore (before after : Door) (old new : ℕ → Link) : Type 0 where
+  pub accepted : after.accepted ≡ before.accepted
+  pub dialled : after.dialled ≡ before.dialled
+  pub closed : (c : ℕ) → (new c).closed ≡ (old c).closed
+  pub written : (c : ℕ) → (new c).written ≡ (old c).written
+
+-- and so does one in memory
+abbrev pub StaysKnown : WireState → WireState → Type 0
+StaysKnown old new = KnowsAsBefore (door_of old) (door_of new) (link_at old) (link_at new)

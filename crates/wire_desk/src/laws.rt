@@ -1,8 +1,9 @@
 //! Laws of the definitions. Each is the contract of a function that does nothing.
 
-ghost use Rattle.std.specs.Prelude.{◌≡◌, ◌+◌, ◌<◌, ◌≤◌, ◌++◌, ◌∷◌, [], ℕ, List, Option, false, length, None};
+ghost use Rattle.std.specs.Prelude.{◌≡◌, ◌+◌, ◌<◌, ◌≤◌, ◌++◌, ◌∷◌, [], ℕ, List, Option, false, true, length, None};
 ghost use Rattle.connection_core.specs.Connection.{ConnectionState, room};
 ghost use Rattle.connection_core.specs.declared.limits.TheConstants.{MOST_READ};
+ghost use Rattle.gate_io.specs.MemWire.{ChangesLink, LinkState, SameButRoom, WireState, new_link, state_at};
 ghost use Rattle.gate_io.specs.Wire.{Door, Link, OthersStay};
 ghost use Rattle.gate_io.specs.declared.dials.Dialled.{Dialled};
 ghost use Rattle.gate_io.specs.declared.wires.Accepted.{Accepted};
@@ -14,9 +15,11 @@ ghost use Rattle.session_desk.specs.Steps.{AreNoted, IsSteady, Proceeds};
 ghost use Rattle.switchboard.specs.Board.{Board, connection_at};
 ghost use Rattle.switchboard.specs.Going.{GoesOnTo, KeepsBytes};
 ghost use Rattle.switchboard.specs.Happenings.{Happening, Happens, IsNewNumber, Reaches};
-ghost use Rattle.wire_desk.specs.Lines.{IsOnWire, IsSetUp, IsWired, standing};
+ghost use Rattle.wire_desk.specs.Dials.{IsDialling};
+ghost use Rattle.wire_desk.specs.Lines.{IsOnWire, IsSetUp, IsWired, KnowsAsBefore, StaysKnown, standing};
 ghost use Rattle.wire_desk.specs.Places.{dialled_behind, listed_behind};
 ghost use Rattle.wire_desk.specs.declared.desk.WireDesk.{WireDesk};
+ghost use Rattle.wire_desk.specs.declared.dialling.Dialler.{Dialler};
 ghost use Rattle.wire_desk.specs.Steps.{AreApart, Progresses};
 
 use session_desk::laws::sessions_proceed;
@@ -68,4 +71,18 @@ pub fn places_stay_apart()
         → AreApart (first ++ dialled_behind answer (length board.connections) last) }
     // Not more are listed where some are listed no longer.
     ensures fewer { (board : Board) (places : List ℕ) → length (standing board places) ≤ length places }
+{}
+
+/// What comes to a wire between two calls leaves its connections on it: so does what a script changes of a
+/// wire in memory.
+pub fn wires_stay_known()
+    ensures wired { (board : Board) (places : List ℕ) (before after : Door) (old new : ℕ → Link) → KnowsAsBefore before after old new → IsWired board places before old → IsWired board places after new }
+    ensures dialling { (board : Board) (d : Dialler) (before after : Door) (old new : ℕ → Link) → KnowsAsBefore before after old new → IsDialling board before d → IsDialling board after d }
+    // One connection more waits to be accepted, or to be dialled.
+    ensures connected { (w : WireState) → StaysKnown w (record w { links = w.links ++ new_link ∷ [] }) }
+    ensures taken { (w : WireState) → StaysKnown w (record w { taken = w.taken ++ new_link ∷ [] }) }
+    // Something else of a connection changes, the next accept fails, or room is made.
+    ensures changed { (old new : WireState) (c : ℕ) (link : LinkState) → ChangesLink old c link new → link.closed ≡ (state_at old c).closed → link.written ≡ (state_at old c).written → StaysKnown old new }
+    ensures accept_fails { (w : WireState) → StaysKnown w (record w { accept_fails = true }) }
+    ensures reserved { (old new : WireState) → SameButRoom old new → StaysKnown old new }
 {}

@@ -84,3 +84,17 @@ returns-clause-noted_online c = λ old new door links rest was. subst (λ (e : E
   few_accepted = was.few_accepted;
   few_dialled = was.few_dialled;
 })
+
+pub returns-clause-known : goal.returns-clause-known
+returns-clause-known c = λ shared e before after old new knows was. record {
+  agree = was.agree;
+  work = was.work;
+  online = λ standing. (let online = was.online standing in record {
+    wired = c.wires_stay_known.ensures.wired e.sessions.desk.board (open_places e.lines) before after old new knows online.wired;
+    dialling = c.wires_stay_known.ensures.dialling e.sessions.desk.board e.dialler before after old new knows online.dialling;
+    accepted = online.accepted ∙ sym knows.accepted;
+    apart = online.apart;
+    few_accepted = online.few_accepted;
+    few_dialled = online.few_dialled;
+  });
+}
