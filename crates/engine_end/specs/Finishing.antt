@@ -1,0 +1,57 @@
+-- How a run ends: the libraries' seats are taken in, each session is gathered once more, and what the run leaves is handed out.
+use Rattle.std.specs.Prelude.{ℕ, zero, suc, ◌<◌, ◌⊎◌, List, [], ◌++◌, length, map, reverse}
+use Rattle.engine_end.specs.Records.{IsLeftBy}
+use Rattle.engine_end.specs.declared.records.EngineRecord.{EngineRecord}
+use Rattle.lease_core.specs.declared.record.Record.{Record}
+use Rattle.lease_desk.specs.Desk.{Gathers, InTurn, Rests}
+use Rattle.lease_desk.specs.declared.desk.LeaseDesk.{LeaseDesk}
+use Rattle.lease_words.specs.Views.{LibraryView}
+use Rattle.lease_words.specs.declared.view.LibraryKnows.{LibraryKnows}
+use Rattle.library_desk.specs.declared.desk.LibraryDesk.{LibraryDesk}
+use Rattle.session_book.specs.Records.{Pending, after_note, new_records}
+use Rattle.session_desk.specs.Steps.{pending_at}
+use Rattle.switchboard.specs.Board.{Board, book_at}
+
+-- what the libraries knew whose seats are taken in one after another: that of the last one stands first
+abbrev pub settled_behind : List LibraryView → List LibraryKnows → List LibraryKnows
+settled_behind seats settled = map (λ seat. seat.knows) (reverse seats) ++ settled
+
+-- the engine's seat has taken in those of the libraries
+abbrev pub after_settling : List LibraryView → LeaseDesk → LeaseDesk
+after_settling seats desk = record desk { seat = record (desk.seat) { settled = settled_behind seats desk.seat.settled } }
+
+-- each session is gathered, in the order of their numbers
+abbrev pub GathersAll : ℕ → ℕ → LeaseDesk → LeaseDesk → Type 0
+GathersAll at until old new = InTurn (λ s. Gathers s at until) (length old.board.sessions) old new
+
+-- So many sessions are gathered, and then memory is wanting: of the next one nothing changes but for how much more there is room.
+pub record GathersSome (at until : ℕ) (old new : LeaseDesk) : Type 0 where
+  pub count : ℕ
+  pub few : count < length old.board.sessions
+  pub between : LeaseDesk
+  pub gathers : InTurn (λ s. Gathers s at until) count old between
+  pub rests : Rests count between new
+
+-- the records of a session's entries that weren't handed out, also of those that weren't noted
+abbrev pub records_at : Board → List Pending → ℕ → List Record
+records_at board unkept s = new_records s (book_at board s) (after_note (book_at board s) (pending_at unkept s))
+
+-- those of the first sessions, by session
+abbrev pub records_of : Board → List Pending → ℕ → List Record
+records_of board unkept zero = []
+records_of board unkept (suc s) = records_of board unkept s ++ records_at board unkept s
+
+abbrev pub all_records : Board → List Pending → List Record
+all_records board unkept = records_of board unkept (length board.sessions)
+
+-- The seats are taken in, each session is gathered, and what sessions and connections then leave is handed out, with the records of the new entries.
+pub record Finishes (seats : List LibraryView) (unkept : List Pending) (accepted at until : ℕ) (old : LibraryDesk) (left : EngineRecord) : Type 0 where
+  pub gathered : LeaseDesk
+  pub gathers : GathersAll at until (after_settling seats old.desk) gathered
+  pub leaves : IsLeftBy gathered.board old.strays.items accepted (all_records gathered.board unkept) left
+
+-- Where memory is wanting, some sessions are gathered or all, and there is no record of a new entry.
+pub record FinishesShort (seats : List LibraryView) (accepted at until : ℕ) (old : LibraryDesk) (left : EngineRecord) : Type 0 where
+  pub gathered : LeaseDesk
+  pub gathers : GathersAll at until (after_settling seats old.desk) gathered ⊎ GathersSome at until (after_settling seats old.desk) gathered
+  pub leaves : IsLeftBy gathered.board old.strays.items accepted [] left

@@ -1,0 +1,4 @@
+pub mod Finishing
+pub mod Meeting
+pub mod Records
+pub mod Room
