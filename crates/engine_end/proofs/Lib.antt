@@ -1,2 +1,3 @@
-pub mod Relinked
 pub mod Recorded
+pub mod Relinked
+pub mod Running

@@ -1,4 +1,5 @@
 pub mod Finishing
+pub mod Happening
 pub mod Meeting
 pub mod Records
 pub mod Room

@@ -6,6 +6,7 @@
 
 mod finishing;
 mod gathering;
+pub mod laws;
 mod meeting;
 mod noting;
 mod records;
