@@ -32,9 +32,13 @@ none_kept to = same_map nat_cmp_total nat_cmp-IsAntisymmetric _ _ (λ n.
     let none = get-empty {X = Task} nat_cmp n in
     get-retain_keys empty (nat_le to) n (λ k tied. ap (nat_le to) (sym (nat_cmp-IsAntisymmetric n k tied))) ∙ none_either (nat_le to n) _ none ∙ sym none)
 
+-- a line that was filled up to a number from its beginning holds nothing, and expects that number
+pub line_from : (n : ℕ) → after_fill fresh_line n ≡ record (fresh_line {T = Task}) { expected = n }
+line_from n = ap (λ (held : FinMap nat_cmp Task). record (fresh_line {T = Task}) { expected = n; held = held }) (none_kept n)
+
 -- nothing is held below the first number
 first_line : after_fill fresh_line 1 ≡ fresh_line {T = Task}
-first_line = ap (λ (held : FinMap nat_cmp Task). record { expected = 1; held = held; horizon = 0 }) (none_kept 1)
+first_line = line_from 1
 
 -- a session that goes on behind nothing is a new one
 behind_nothing : (us them : List ℕ) (dials : Option ℕ) (leases : ℕ) → after_resume us them dials 1 0 (nothing_read leases) ≡ fresh_book us them dials leases
@@ -52,7 +56,7 @@ pub record BeginSessions (config : Config) (count : ℕ) (board : Board) : Type 
   pub nowhere : board.nowhere.outgoing ≡ no_outgoing
 
 -- what the laws of boards say of one session more
-abbrev GoesOnFirst : Type 0
+abbrev pub GoesOnFirst : Type 0
 GoesOnFirst = (board : Board) (kept : Kept) → bound_of kept.book ≡ None → IsLawful kept.book → IsFirst (entries_of board) board → IsFirst (entries_of (with_session_more kept board)) (with_session_more kept board)
 
 pub one_more : GoesOnFirst → (config : Config) (count : ℕ) (old new : Board) (kept : Kept) → bound_of kept.book ≡ None → IsLawful kept.book

@@ -7,7 +7,7 @@ use Rattle.std.proofs.lemmas.List.{length-append}
 use Rattle.catchup_pump.specs.declared.cursor.Cursor.{Cursor}
 use Rattle.engine_config.specs.Config.{IsConfig}
 use Rattle.engine_config.specs.declared.config.Config.{Config}
-use Rattle.engine_start.specs.Starts.{StartsCursors, StartsSessions, new_cursor, new_shape}
+use Rattle.engine_start.specs.Starts.{IsShapeOf, StartsCursors, StartsSessions, new_cursor, new_shape}
 use Rattle.engine_start.specs.Sides.{AreSides}
 use Rattle.engine_start.specs.declared.sides.Sides.{Sides}
 use Rattle.engine_start.proofs.NewEnds.{engine_commands, engine_count, engine_notices}
@@ -30,7 +30,7 @@ use Rattle.session_core.specs.declared.routing.TheConstants.{MOST_SESSIONS}
 use Rattle.switchboard.specs.Board.{Board, book_at}
 use Rattle.switchboard.specs.Sound.{IsSound}
 
-session_of : (shape : Shape) (first n s : ℕ) → s < n → get_or (new_engine_sessions shape first n) s no_engine_session ≡ new_engine_session shape (first + s)
+pub session_of : (shape : Shape) (first n s : ℕ) → s < n → get_or (new_engine_sessions shape first n) s no_engine_session ≡ new_engine_session shape (first + s)
 session_of shape first zero s small = absurd (omega arith)
 session_of shape first (suc n) zero small = ap (new_engine_session shape) (omega arith)
 session_of shape first (suc n) (suc s) small = session_of shape (suc first) n s (omega arith) ∙ ap (new_engine_session shape) (omega arith)
@@ -76,18 +76,23 @@ nobody : (entries : List Entry) → entries ≡ [] → owner_of (state_of entrie
 unfolding state_of
 nobody entries none = ap (λ es. owner_of (state_of es)) none
 
-pub cursors_begin : (config : Config) (board : Board) (cursors : List Cursor) → StartsSessions config board → StartsCursors (length config.names) cursors → AreCursors board cursors
-cursors_begin config board cursors sessions starts = record {
-  count = starts.count ∙ sym sessions.count;
+-- new cursors are those of sessions that nobody has
+pub cursors_are : (sessions : ℕ) (board : Board) (cursors : List Cursor) → length board.sessions ≡ sessions → ((s : ℕ) → s < sessions → owner_at board s ≡ 0) → StartsCursors sessions cursors → AreCursors board cursors
+cursors_are sessions board cursors count nobody_has starts = record {
+  count = starts.count ∙ sym count;
   each = λ s small.
-      let within : s < length config.names = subst (λ n. s < n) sessions.count small in
-      let free : owner_at board s ≡ 0 = nobody (book_at board s).entries (ap (λ (b : Book). b.entries) (sessions.books s within)) in
+      let within : s < sessions = subst (λ n. s < n) count small in
+      let free : owner_at board s ≡ 0 = nobody_has s within in
       subst (IsCursorOf board s) (sym (starts.each s within)) (record {
         session = refl;
         within = omega arith;
         lease = λ some. absurd (omega arith);
       });
 }
+
+pub cursors_begin : (config : Config) (board : Board) (cursors : List Cursor) → StartsSessions config board → StartsCursors (length config.names) cursors → AreCursors board cursors
+cursors_begin config board cursors sessions starts =
+    cursors_are (length config.names) board cursors sessions.count (λ s within. nobody (book_at board s).entries (ap (λ (b : Book). b.entries) (sessions.books s within))) starts
 
 -- one cursor more
 pub cursors_more : (s : ℕ) (old new : List Cursor) → new ≡ old ++ new_cursor s ∷ [] → StartsCursors s old → StartsCursors (s + 1) new
@@ -99,17 +104,17 @@ cursors_more s old new is starts = record {
 }
 
 -- the seat and the engine's ends belong to the table and the rings
-pub begins_linked : (config : Config) (shared : Shared) (sides : Sides) (d : LibraryDesk) → IsConfig config → shared.leases.shape ≡ new_shape config
+pub begins_linked : (config : Config) (shared : Shared) (sides : Sides) (d : LibraryDesk) → IsConfig config → IsShapeOf config shared.leases.shape
     → AreSides (new_library_seats shared.leases 1 config.libraries) sides → shared.commands.items ≡ sides.commands.items → shared.notices.items ≡ sides.notices.items → d.ends.items ≡ sides.engine.items
     → d.desk.seat ≡ new_engine_seat shared.leases → length d.watch.kept ≡ config.libraries → length d.desk.board.sessions ≡ length config.names → IsLinked shared d
 begins_linked config shared sides d is shape are commands notices ends seat watched sessions =
-    let libraries : shared.leases.shape.libraries ≡ config.libraries = ap (λ (x : Shape). x.libraries) shape in
+    let libraries = shape.libraries in
     let count : length d.ends.items ≡ config.libraries = ap (λ (es : List EngineEnds). length es) ends ∙ engine_count shared.leases config.libraries sides are in
     record {
       table = ap (λ (v : EngineView). v.table) seat;
-      depth = subst (λ n. n ≤ LANE_SLOTS) (sym (ap (λ (x : Shape). x.depth) shape)) is.lane.to_most;
-      sessions = sessions ∙ sym (ap (λ (x : Shape). x.sessions) shape);
-      few = subst (λ n. n ≤ MOST_SESSIONS) (sym (ap (λ (x : Shape). x.sessions) shape)) is.sessions;
+      depth = subst (λ n. n ≤ LANE_SLOTS) (sym shape.depth) is.lane.to_most;
+      sessions = sessions ∙ sym shape.sessions;
+      few = subst (λ n. n ≤ MOST_SESSIONS) (sym shape.sessions) is.sessions;
       libraries = count ∙ sym libraries;
       known = subst (λ n. n ≤ MOST_LIBRARIES) (sym libraries) is.libraries;
       watched = watched ∙ sym count;

@@ -1,2 +1,5 @@
+pub mod Closing
+pub mod Restarts
+pub mod Revived
 pub mod Sides
 pub mod Starts

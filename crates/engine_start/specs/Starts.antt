@@ -51,13 +51,23 @@ new_shape config = record { sessions = length config.names; libraries = config.l
 abbrev pub HaveSlots : List RingId → Type 0
 HaveSlots rings = All (λ ring. ring.capacity ≡ RING_SLOTS) rings
 
--- The table is for the sessions and libraries of the configuration, and each library has two rings.
-pub record StartsTable (config : Config) (shared : Shared) : Type 0 where
-  pub shape : shared.leases.shape ≡ new_shape config
+-- each library has a ring of commands and a ring of notices
+pub record HaveRings (config : Config) (shared : Shared) : Type 0 where
   pub commands : length shared.commands.items ≡ config.libraries
   pub notices : length shared.notices.items ≡ config.libraries
   pub command_slots : HaveSlots shared.commands.items
   pub notice_slots : HaveSlots shared.notices.items
+
+-- The table is for the sessions and libraries of the configuration, and each library has two rings.
+pub record StartsTable (config : Config) (shared : Shared) : Type 0 where
+  pub shape : shared.leases.shape ≡ new_shape config
+  pub rings : HaveRings config shared
+
+-- a table for as many sessions and libraries, with as much room
+pub record IsShapeOf (config : Config) (shape : Shape) : Type 0 where
+  pub sessions : shape.sessions ≡ length config.names
+  pub libraries : shape.libraries ≡ config.libraries
+  pub depth : shape.depth ≡ config.lane
 
 -- the first cursor of a session
 abbrev pub new_cursor : ℕ → Cursor

@@ -16,7 +16,7 @@ use switchboard::Switchboard;
 use switchboard::laws::boards_stay_ready;
 
 // The number that a session expects first.
-const FIRST_NUMBER: u32 = 1;
+pub(crate) const FIRST_NUMBER: u32 = 1;
 
 /// The sessions in order, of which none has a connection.
 #[tactic(auto, using(crate::proofs::NewBooks::one_more))]

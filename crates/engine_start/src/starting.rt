@@ -1,19 +1,16 @@
 //! All that an engine and its libraries begin with.
 
-ghost use Rattle.std.specs.Prelude.{◌≡◌, ◌≤◌, IfOk, length};
+ghost use Rattle.std.specs.Prelude.{IfOk};
 ghost use Rattle.engine_config.specs.Config.{IsConfig};
-ghost use Rattle.engine_start.specs.Starts.{StartsCursors, StartsDesk, StartsEngine, StartsLibraries, StartsSessions, StartsTable};
+ghost use Rattle.engine_start.specs.Starts.{StartsDesk, StartsEngine, StartsLibraries, StartsSessions, StartsTable};
 ghost use Rattle.library_desk.specs.Serving.{IsInOrder, IsLinked};
 
+use crate::assembling::assemble;
 use crate::ends::LibraryEnds;
 use crate::sessions::board;
-use crate::sides::{Sides, make_sides};
-use catchup_pump::Cursor;
 use engine_config::Config;
 use gate_io::NoMemory;
-use lease_desk::LeaseDesk;
 use lease_words::Leases;
-use library_clock::Watch;
 use library_desk::{LibraryDesk, Shared};
 use std::alloc::Global;
 use switchboard::laws::boards_stay_ready;
@@ -36,43 +33,14 @@ pub fn start(
     ensures libraries { IfOk result (λ made. StartsLibraries config.now made.1 made.2.items) }
 {
     boards_stay_ready();
-    let count = config.names.as_slice().len() as u16;
+    let sessions = board(alloc, config)?;
     let (leases, seat, seats) = Leases::new(
         alloc,
-        count,
+        config.names.as_slice().len() as u16,
         config.libraries,
         config.lane,
         config.sends,
     )?;
-    let Sides {
-        commands,
-        notices,
-        engine,
-        libraries,
-    } = make_sides(alloc, seats)?;
-    let desk = LibraryDesk {
-        desk: LeaseDesk::new(alloc, board(alloc, config)?, seat),
-        watch: Watch::new(alloc, config.libraries, config.timeout, moment)?,
-        ends: engine,
-        cursors: cursors(alloc, count)?,
-        strays: Vec::new(alloc),
-    };
-    let shared = Shared {
-        leases,
-        commands,
-        notices,
-    };
+    let (desk, shared, libraries) = assemble(alloc, config, moment, sessions, leases, seat, seats)?;
     Ok((desk, shared, libraries))
-}
-
-// The cursors of as many sessions, which nobody has yet.
-#[tactic(auto, using(crate::proofs::Outset::cursors_more))]
-fn cursors(alloc: Global, sessions: u16) -> Result<Vec<Cursor>, NoMemory>
-    ensures { IfOk result (λ made. StartsCursors sessions made.items) }
-{
-    let mut cursors = Vec::new(alloc);
-    for s in 0..sessions {
-        cursors.push(Cursor { s, lease: 0, at: 0 })?;
-    }
-    Ok(cursors)
 }

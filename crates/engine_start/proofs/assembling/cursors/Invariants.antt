@@ -1,5 +1,5 @@
 use Rattle.engine_start.specs.Starts.{StartsCursors}
-use Rattle.engine_start.proofs.starting.cursors.Given as goal
+use Rattle.engine_start.proofs.assembling.cursors.Given as goal
 
 -- the cursors so far are made
 abbrev pub invariant-loop-s : goal.invariant-loop-s
