@@ -1,5 +1,5 @@
 -- How a run ends: the libraries' seats are taken in, each session is gathered once more, and what the run leaves is handed out.
-use Rattle.std.specs.Prelude.{ℕ, zero, suc, ◌<◌, ◌⊎◌, List, [], ◌++◌, length, map, reverse}
+use Rattle.std.specs.Prelude.{◌≡◌, ℕ, zero, suc, ◌<◌, ◌⊎◌, List, [], ◌++◌, length, map, reverse}
 use Rattle.engine_end.specs.Records.{IsLeftBy}
 use Rattle.engine_end.specs.declared.records.EngineRecord.{EngineRecord}
 use Rattle.lease_core.specs.declared.record.Record.{Record}
@@ -44,14 +44,24 @@ records_of board unkept (suc s) = records_of board unkept s ++ records_at board 
 abbrev pub all_records : Board → List Pending → List Record
 all_records board unkept = records_of board unkept (length board.sessions)
 
--- The seats are taken in, each session is gathered, and what sessions and connections then leave is handed out, with the records of the new entries.
-pub record Finishes (seats : List LibraryView) (unkept : List Pending) (accepted at until : ℕ) (old : LibraryDesk) (left : EngineRecord) : Type 0 where
+-- Each session is gathered, and what sessions and connections then leave is handed out, with the records of the new entries.
+pub record FinishesFrom (unkept : List Pending) (accepted at until : ℕ) (old : LibraryDesk) (left : EngineRecord) : Type 0 where
   pub gathered : LeaseDesk
-  pub gathers : GathersAll at until (after_settling seats old.desk) gathered
+  pub gathers : GathersAll at until old.desk gathered
   pub leaves : IsLeftBy gathered.board old.strays.items accepted (all_records gathered.board unkept) left
 
--- Where memory is wanting, some sessions are gathered or all, and there is no record of a new entry.
-pub record FinishesShort (seats : List LibraryView) (accepted at until : ℕ) (old : LibraryDesk) (left : EngineRecord) : Type 0 where
+-- Where memory is wanting, no session is gathered, or some are, or all, and there is no record of a new entry.
+pub record FinishesShortFrom (accepted at until : ℕ) (old : LibraryDesk) (left : EngineRecord) : Type 0 where
   pub gathered : LeaseDesk
-  pub gathers : GathersAll at until (after_settling seats old.desk) gathered ⊎ GathersSome at until (after_settling seats old.desk) gathered
+  pub gathers : (gathered ≡ old.desk) ⊎ (GathersAll at until old.desk gathered ⊎ GathersSome at until old.desk gathered)
   pub leaves : IsLeftBy gathered.board old.strays.items accepted [] left
+
+-- the libraries' seats are taken in before
+abbrev pub with_seats : List LibraryView → LibraryDesk → LibraryDesk
+with_seats seats d = record d { desk = after_settling seats d.desk }
+
+abbrev pub Finishes : List LibraryView → List Pending → ℕ → ℕ → ℕ → LibraryDesk → EngineRecord → Type 0
+Finishes seats unkept accepted at until old left = FinishesFrom unkept accepted at until (with_seats seats old) left
+
+abbrev pub FinishesShort : List LibraryView → ℕ → ℕ → ℕ → LibraryDesk → EngineRecord → Type 0
+FinishesShort seats accepted at until old left = FinishesShortFrom accepted at until (with_seats seats old) left

@@ -1,9 +1,10 @@
 //! A run ends.
 
-ghost use Rattle.std.specs.Prelude.{◌≡◌, ◌≤◌, ◌⊎◌, length, IfErr, IfOk, OnErr, OnOk};
+ghost use Rattle.std.specs.Prelude.{◌≡◌, ◌≤◌, ◌⊎◌, [], length, IfErr, IfOk, OnErr, OnOk};
 ghost use Rattle.std.specs.List.{All};
-ghost use Rattle.engine_end.specs.Finishing.{Finishes, FinishesShort, GathersAll, GathersSome, all_records};
-ghost use Rattle.engine_end.specs.Records.{HasLawfulJournal};
+ghost use Rattle.engine_end.specs.Finishing.{Finishes, FinishesFrom, FinishesShort, FinishesShortFrom, GathersAll, GathersSome, all_records};
+ghost use Rattle.engine_end.specs.Records.{HasLawfulJournal, IsLeftBy};
+ghost use Rattle.engine_end.specs.Room.{HasRoomFor};
 ghost use Rattle.lease_words.specs.Views.{LibraryView};
 ghost use Rattle.library_desk.specs.Serving.{IsLinked};
 ghost use Rattle.session_desk.specs.Steps.{AreNoted, IsSteady};
@@ -21,6 +22,7 @@ use session_book::Unkept;
 use session_core::MOST_SESSIONS;
 use session_desk::laws::sessions_proceed;
 use std::alloc::Global;
+use switchboard::Switchboard;
 
 /// Takes the libraries' seats in, gathers each session once more, and hands out what the run leaves.
 /// `at` is the moment of the last turn, and behind `until` a hold lapses that this gathering makes. What
@@ -28,14 +30,15 @@ use std::alloc::Global;
 /// out before, and `accepted` how many connections were accepted.
 ///
 /// Without memory each session and connection is handed out as it stood, each journal lawful: sends that
-/// only this gathering would have shown may be missing, and no record of a new entry is handed out.
+/// only this gathering would have shown may be missing, and no record of a new entry is handed out. Where
+/// there is no memory for that either, `spare` has the room for it.
 pub fn finish(
     alloc: Global,
-    room: RecordRoom,
+    spare: RecordRoom,
     mut desk: LibraryDesk,
     shared: &Shared,
     seats: Vec<LibrarySeat>,
-    mut unkept: Vec<Unkept>,
+    unkept: Vec<Unkept>,
     accepted: u32,
     at: u64,
     until: u64,
@@ -45,14 +48,58 @@ pub fn finish(
     requires moment { at ≤ LAST_MOMENT }
     requires steady { IsSteady desk.desk.board desk.desk.seat }
     requires noted { AreNoted unkept.items desk.desk.board }
-    requires sessions { length desk.desk.board.sessions ≤ room.sessions }
-    requires connections { length desk.desk.board.connections ≤ room.connections }
     ensures finishes { IfOk result (Finishes seats.items unkept.items accepted at until desk) }
-    ensures finishes_short { IfErr result (λ e. FinishesShort seats.items accepted at until desk e.1) }
+    ensures finishes_short { IfErr result (λ e. HasRoomFor desk.desk.board spare → FinishesShort seats.items accepted at until desk e.1) }
     ensures journals { IfOk result (λ left. All HasLawfulJournal left.sessions) }
     ensures journals_short { IfErr result (λ e. All HasLawfulJournal e.1.sessions) }
 {
     settle_all(&mut desk.desk, &shared.leases, seats);
+    match room_for(alloc, &desk.desk.board) {
+        Ok(room) => finish_in(alloc, room, desk, shared, unkept, accepted, at, until),
+        Err(no_memory) => Err((no_memory, spare.fill_as_it_holds(alloc, desk, accepted))),
+    }
+}
+
+/// What sessions and connections leave as they stand. Where there is no memory for that, `spare` has the
+/// room for it.
+pub fn leave(alloc: Global, spare: RecordRoom, desk: LibraryDesk, accepted: u32) -> EngineRecord
+    ensures left { HasRoomFor desk.desk.board spare → IsLeftBy desk.desk.board desk.strays.items accepted [] result }
+    ensures journals { All HasLawfulJournal result.sessions }
+{
+    match room_for(alloc, &desk.desk.board) {
+        Ok(room) => room.fill_as_it_holds(alloc, desk, accepted),
+        Err(NoMemory::OutOfMemory) => spare.fill_as_it_holds(alloc, desk, accepted),
+    }
+}
+
+/// Room for the records of these sessions and connections.
+fn room_for(alloc: Global, board: &Switchboard) -> Result<RecordRoom, NoMemory>
+    ensures { IfOk result (HasRoomFor board.now) }
+{
+    RecordRoom::new(alloc, board.sessions(), board.connections())
+}
+
+/// Gathers each session, and hands out what the run leaves, in a room that holds it.
+fn finish_in(
+    alloc: Global,
+    room: RecordRoom,
+    mut desk: LibraryDesk,
+    shared: &Shared,
+    mut unkept: Vec<Unkept>,
+    accepted: u32,
+    at: u64,
+    until: u64,
+) -> Result<EngineRecord, (NoMemory, EngineRecord)>
+    requires linked { IsLinked shared.now desk }
+    requires moment { at ≤ LAST_MOMENT }
+    requires steady { IsSteady desk.desk.board desk.desk.seat }
+    requires noted { AreNoted unkept.items desk.desk.board }
+    requires room { HasRoomFor desk.desk.board room }
+    ensures finishes { IfOk result (FinishesFrom unkept.items accepted at until desk) }
+    ensures finishes_short { IfErr result (λ e. FinishesShortFrom accepted at until desk e.1) }
+    ensures journals { IfOk result (λ left. All HasLawfulJournal left.sessions) }
+    ensures journals_short { IfErr result (λ e. All HasLawfulJournal e.1.sessions) }
+{
     let gathered = gather_records(
         alloc,
         &mut desk.desk,

@@ -12,6 +12,6 @@ mod noting;
 mod records;
 mod settling;
 
-pub use finishing::finish;
+pub use finishing::{finish, leave};
 pub use meeting::meet;
 pub use records::{EngineRecord, RecordRoom};

@@ -1,7 +1,8 @@
 //! What an engine leaves.
 
-ghost use Rattle.std.specs.Prelude.{◌≡◌, ◌≤◌, [], IfOk, length, map, vec_capacity};
+ghost use Rattle.std.specs.Prelude.{◌≡◌, ◌≤◌, ◌↔◌, [], IfOk, IsTrue, length, map, vec_capacity};
 ghost use Rattle.std.specs.List.{All};
+ghost use Rattle.engine_end.specs.Room.{HasRoomFor};
 ghost use Rattle.engine_end.specs.Records.{HasLawfulJournal, IsLeftBy, connection_records, left_in, left_of};
 
 use connection_core::{ConnRecord, Connection};
@@ -59,6 +60,39 @@ impl RecordRoom {
             connections: Vec::with_capacity(alloc, connections)?,
             dialled: Vec::with_capacity(alloc, connections)?,
         })
+    }
+
+    /// Whether there is room for the records of so many sessions and connections.
+    fn holds(&self, sessions: usize, connections: usize) -> bool
+        ensures { IsTrue result ↔ ((sessions ≤ self.now.sessions) × (connections ≤ self.now.connections)) }
+    {
+        sessions <= self.sessions.capacity()
+            && connections <= self.connections.capacity()
+            && connections <= self.dialled.capacity()
+    }
+
+    /// What sessions and connections leave as they stand, without a record of a new entry. Where there is
+    /// no room for them it has none of them.
+    pub(crate) fn fill_as_it_holds(
+        self,
+        alloc: Global,
+        desk: LibraryDesk,
+        accepted: u32,
+    ) -> EngineRecord
+        ensures left { HasRoomFor desk.desk.board self → IsLeftBy desk.desk.board desk.strays.items accepted [] result }
+        ensures journals { All HasLawfulJournal result.sessions }
+    {
+        let board = &desk.desk.board;
+        if !self.holds(board.sessions(), board.connections()) {
+            return EngineRecord {
+                sessions: Rows::of(Vec::new(alloc)),
+                connections: Rows::of(Vec::new(alloc)),
+                strays: Rows::of(Vec::new(alloc)),
+                accepted,
+                added: Rows::of(Vec::new(alloc)),
+            };
+        }
+        self.fill(desk, accepted, Vec::new(alloc))
     }
 
     /// What sessions and connections leave as they stand, with the number of accepted connections and the

@@ -5,6 +5,7 @@ ghost use Rattle.lease_desk.specs.Desk.{owner_at};
 ghost use Rattle.switchboard.specs.Board.{book_at, connection_at};
 ghost use Rattle.switchboard.specs.Sound.{bound_of};
 
+use engine_end::RecordRoom;
 use gate_io::LAST_MOMENT;
 use library_desk::LibraryDesk;
 use session_core::Cause;
@@ -23,6 +24,8 @@ pub struct Engine {
     pub(crate) hold: u64,
     /// The moment of the last turn; before the first one that at which the engine began.
     pub(crate) moment: u64,
+    /// Room for what the run leaves, where there is no memory for it at its end.
+    pub(crate) spare: RecordRoom,
     /// Memory was wanting: nothing more is done.
     pub(crate) failed: bool,
 }

@@ -5,6 +5,7 @@
 mod accepting;
 mod dialling;
 mod engine;
+mod finishing;
 mod giving;
 pub mod laws;
 mod noting;

@@ -13,6 +13,7 @@ ghost use Rattle.session_desk.specs.Steps.{nothing_noted};
 use crate::engine::Engine;
 use connection_core::MOST_READ;
 use engine_config::Config;
+use engine_end::RecordRoom;
 use engine_start::LibraryEnds;
 use gate_io::{Bytes, LAST_MOMENT, NoMemory};
 use library_desk::Shared;
@@ -56,10 +57,23 @@ pub fn start(
         accepted: 0,
         hold: config.hold,
         moment,
+        spare: spare(alloc, &config)?,
         failed: false,
         dialler: dialler(alloc, config)?,
     };
     Ok((engine, shared, ends))
+}
+
+/// Room for what a run leaves: of each session, and of as many connections as are accepted and dialled.
+fn spare(alloc: Global, config: &Config) -> Result<RecordRoom, NoMemory>
+    requires config { IsConfig config.now }
+{
+    let sessions = config.names.as_slice().len();
+    RecordRoom::new(
+        alloc,
+        sessions,
+        config.connections as usize + config.dials as usize,
+    )
 }
 
 /// What is kept of the connections while there is none.

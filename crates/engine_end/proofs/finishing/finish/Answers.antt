@@ -1,24 +1,11 @@
-use Rattle.std.proofs.Common.{◌⊎◌, List, subst}
-use Rattle.engine_end.specs.Finishing.{GathersAll, GathersSome}
-use Rattle.engine_end.specs.Records.{IsLeftBy}
-use Rattle.lease_core.specs.declared.record.Record.{Record}
+use Rattle.std.proofs.Common.{inl, sym, subst}
+use Rattle.engine_end.specs.Room.{HasRoomFor}
 use Rattle.lease_desk.specs.declared.desk.LeaseDesk.{LeaseDesk}
 use Rattle.engine_end.proofs.finishing.finish.Goals as goal
 
-pub returns-in-Ok-clause-finishes : goal.returns-in-Ok-clause-finishes
-returns-in-Ok-clause-finishes c =
-    let gathered = c.gather_records-gathered.new.desk in
-    record {
-      gathered = gathered;
-      gathers = subst (λ (d : LeaseDesk). GathersAll c.args.at c.args.until d gathered) c.settle_all.ensures c.in-Ok.ensures.gathers;
-      leaves = subst (λ (added : List Record). IsLeftBy gathered.board c.args.desk.strays.items c.args.accepted added c.fill.result) c.in-Ok.ensures.added c.fill.ensures.left;
-    }
-
-pub returns-clause-finishes_short : goal.returns-clause-finishes_short
-returns-clause-finishes_short c =
-    let gathered = c.gather_records-gathered.new.desk in
-    record {
-      gathered = gathered;
-      gathers = subst (λ (d : LeaseDesk). GathersAll c.args.at c.args.until d gathered ⊎ GathersSome c.args.at c.args.until d gathered) c.settle_all.ensures c.in-Err.ensures.stops;
-      leaves = subst (λ (added : List Record). IsLeftBy gathered.board c.args.desk.strays.items c.args.accepted added c.fill-in-Err.result) c.new.ensures.items c.fill-in-Err.ensures.left;
-    }
+pub returns-in-Err-clause-finishes_short : goal.returns-in-Err-clause-finishes_short
+returns-in-Err-clause-finishes_short c = λ room. record {
+  gathered = c.settle_all.new.desk;
+  gathers = inl c.settle_all.ensures;
+  leaves = c.fill_as_it_holds.ensures.left (subst (λ (d : LeaseDesk). HasRoomFor d.board c.args.spare) (sym c.settle_all.ensures) room);
+}
