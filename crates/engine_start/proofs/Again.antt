@@ -1,18 +1,21 @@
 -- How the sessions go on, one after another, and how the engine is in order behind them.
-use Rattle.std.proofs.Common.{◌≡◌, ℕ, ◌+◌, ◌<◌, ◌≤◌, List, [], ◌∷◌, ◌++◌, length, get_or, None, sym, ap, subst, ◌∙◌, arith}
+use Rattle.std.proofs.Common.{◌≡◌, ℕ, ◌+◌, ◌<◌, ◌≤◌, List, [], ◌∷◌, ◌++◌, length, get_or, Option, None, refl, sym, ap, subst, ◌∙◌, arith}
 use borrow.Author.Count.{below_more}
 use Rattle.std.proofs.Math.ListN.{get_or-append}
 use Rattle.std.proofs.Math.Seq.{get_or-append_seam}
 use Rattle.std.proofs.lemmas.List.{get_or-map, get_or_default, length-append, length-map}
 use Rattle.engine_config.specs.Config.{dial_of, names_of}
 use Rattle.engine_config.specs.declared.config.Config.{Config}
+use Rattle.engine_config.specs.declared.config.DialTo.{DialTo}
 use Rattle.engine_start.proofs.NewBooks.{GoesOnFirst}
 use Rattle.engine_start.proofs.Outset.{session_of}
 use Rattle.engine_start.proofs.Reading.{entries_back, leases_back}
-use Rattle.engine_start.specs.Restarts.{NotesClosing, RestartsSessions, ResumesLeases, book_behind, closing_noted, lines_of_sessions, records_of, restarted_book}
+use Rattle.engine_start.specs.Restarts.{NotesClosing, RestartsSessions, ResumesLeases, book_behind, closing_noted, expected_behind, lines_of_sessions, read_back, records_of, restarted_book}
 use Rattle.engine_start.specs.Revived.{AreRevived, GoOnBehind, GoesOnBehind, revived_at, revived_by}
+use Rattle.engine_start.specs.Starts.{configured_book}
 use Rattle.engine_start.specs.declared.reviving.Revived.{Revived}
 use Rattle.lease_core.specs.Lines.{lines_of}
+use Rattle.lease_core.specs.State.{state_of}
 use Rattle.lease_core.specs.declared.limits.TheConstants.{MOST_LEASES}
 use Rattle.lease_core.specs.declared.entry.Entry.{Entry}
 use Rattle.lease_core.specs.declared.lease.Line.{Line}
@@ -24,6 +27,7 @@ use Rattle.lease_words.specs.declared.view.EngineSession.{EngineSession}
 use Rattle.session_book.specs.Book.{Book}
 use Rattle.session_book.specs.Kept.{Kept}
 use Rattle.session_book.specs.Records.{HasNotedAll, Pending}
+use Rattle.session_core.specs.declared.names.Names.{Names}
 use Rattle.session_desk.specs.Steps.{nothing_noted, pending_at}
 use Rattle.switchboard.specs.Board.{Board, book_at, no_session, with_session_more}
 use Rattle.switchboard.specs.Ready.{IsFirst, entries_of}
@@ -74,6 +78,11 @@ next_within done rest all one is =
 pub next_is : (done rest all : List Revived) (one : Revived) → done ++ one ∷ rest ≡ all → revived_at all (length done) ≡ one
 next_is done rest all one is = ap (λ xs. revived_at xs (length done)) (sym is) ∙ get_or-append_seam done one rest (revived_by 0 [])
 
+-- a session without records is new
+new_again : (names : Names) (dial : Option DialTo) (until leases : ℕ) → restarted_book names dial until (read_back leases []) (expected_behind []) ≡ configured_book leases names dial
+unfolding state_of
+new_again names dial until leases = refl
+
 module _ (config : Config) (until : ℕ) (records : List Record) (revived : List Revived) (board : Board) (unkept : List Pending)
     (are : AreRevived config.leases (length config.names) records revived) (go_on : GoOnBehind config until revived (length config.names) board unkept) where
   book_of : (s : ℕ) → s < length config.names → book_at board s ≡ book_behind config until records s
@@ -84,6 +93,9 @@ module _ (config : Config) (until : ℕ) (records : List Record) (revived : List
   restarts_sessions = record {
     count = go_on.count_is;
     books = book_of;
+    new = λ s small none. book_of s small
+        ∙ ap (λ (own : List Record). restarted_book (names_of config s) (dial_of config s) until (read_back config.leases own) (expected_behind own)) none
+        ∙ new_again (names_of config s) (dial_of config s) until config.leases;
     owned = λ s small. (go_on.each s small).owned;
     unbound = λ s small. go_on.first.unbound s (subst (λ n. s < n) (sym go_on.count_is) small);
     first = go_on.first;

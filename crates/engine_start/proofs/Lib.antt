@@ -6,3 +6,4 @@ pub mod NewEnds
 pub mod Outset
 pub mod Places
 pub mod Reading
+pub mod Recoveries

@@ -1,4 +1,5 @@
 pub mod Closing
+pub mod Recovered
 pub mod Restarts
 pub mod Revived
 pub mod Sides

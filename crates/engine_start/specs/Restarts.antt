@@ -5,7 +5,7 @@ use Rattle.connection_core.specs.Outgoing.{no_outgoing}
 use Rattle.engine_config.specs.Config.{dial_of, names_of}
 use Rattle.engine_config.specs.declared.config.Config.{Config}
 use Rattle.engine_config.specs.declared.config.DialTo.{DialTo}
-use Rattle.engine_start.specs.Starts.{HaveRings, heart_of, new_shape}
+use Rattle.engine_start.specs.Starts.{HaveRings, configured_book, heart_of, new_shape}
 use Rattle.engine_start.specs.declared.sessions.TheConstants.{FIRST_NUMBER}
 use Rattle.gate_io.specs.declared.clocks.TheConstants.{LAST_MOMENT}
 use Rattle.lease_core.specs.Lines.{lines_of}
@@ -106,6 +106,8 @@ hold_until config moment = min (moment + config.hold) LAST_MOMENT
 pub record RestartsSessions (config : Config) (until : ℕ) (records : List Record) (board : Board) : Type 0 where
   pub count : length board.sessions ≡ length config.names
   pub books : (s : ℕ) → s < length config.names → book_at board s ≡ book_behind config until records s
+  -- one without records is as `start` makes it
+  pub new : (s : ℕ) → s < length config.names → records_of s records ≡ [] → book_at board s ≡ configured_book config.leases (names_of config s) (dial_of config s)
   pub owned : (s : ℕ) → s < length config.names → owner_at board s ≡ 0
   pub unbound : (s : ℕ) → s < length config.names → bound_of (book_at board s) ≡ None
   pub first : IsFirst (entries_of board) board

@@ -7,6 +7,7 @@
 mod assembling;
 mod closing;
 mod ends;
+pub mod laws;
 mod restarting;
 mod resuming;
 mod reviving;
