@@ -13,9 +13,12 @@ use Rattle.engine_config.specs.Config.{IsConfig, IsDial, dial_of, names_of}
 use Rattle.engine_config.specs.declared.config.Config.{Config}
 use Rattle.engine_config.specs.declared.config.DialTo.{DialTo}
 use Rattle.engine_loop.specs.Engines.{IsAtWork, IsOnline}
-use Rattle.engine_loop.specs.Starts.{StartsDials, StartsFigures, StartsLines, StartsRoutes, accepting_sessions}
+use Rattle.engine_loop.specs.Starts.{HasNoLines, StartsDials, StartsFigures, StartsRoutes, accepting_sessions}
 use Rattle.engine_loop.specs.declared.engine.Engine.{Engine}
+use Rattle.connection_core.specs.declared.limits.TheConstants.{MOST_READ}
+use Rattle.engine_start.specs.Restarts.{RestartsSessions}
 use Rattle.engine_start.specs.Starts.{StartsSessions, heart_of}
+use Rattle.lease_core.specs.declared.record.Record.{Record}
 use Rattle.gate_io.specs.Wire.{Door, Link}
 use Rattle.gate_io.specs.declared.clocks.TheConstants.{LAST_MOMENT}
 use Rattle.gate_io.specs.declared.wires.TheConstants.{MOST_DIALLED}
@@ -78,14 +81,34 @@ none_is : {T : Type 0} (o : Option T) → is_none o ≡ true → o ≡ None
 none_is None is = refl
 none_is (Some x) is = cc
 
-is_route : (config : Config) (board : Board) (s : ℕ) → StartsSessions config board → s < length config.names → is_none (dial_of config s) ≡ true → IsRoute board s (names_of config s)
-is_route config board s starts within accepts = record {
-  within = subst (λ n. s < n) (sym starts.count) within;
-  accepts = ap (λ (b : Book). b.machine.dials) (starts.books s within) ∙ ap heart_of (none_is (dial_of config s) accepts);
-  names_are = ap (λ (b : Book). b.machine.names) (starts.books s within);
+-- there are the sessions of a configuration, with their names, which dial as it says
+pub record AreSessionsOf (config : Config) (board : Board) : Type 0 where
+  pub count : length board.sessions ≡ length config.names
+  pub names : (s : ℕ) → s < length config.names → (book_at board s).machine.names ≡ names_of config s
+  pub dials : (s : ℕ) → s < length config.names → (book_at board s).machine.dials ≡ heart_of (dial_of config s)
+
+pub started : (config : Config) (board : Board) → StartsSessions config board → AreSessionsOf config board
+started config board starts = record {
+  count = starts.count;
+  names = λ s within. ap (λ (b : Book). b.machine.names) (starts.books s within);
+  dials = λ s within. ap (λ (b : Book). b.machine.dials) (starts.books s within);
 }
 
-pub routes_begin : (config : Config) (board : Board) (routes : Routes) → StartsSessions config board → StartsRoutes config (length config.names) routes → AreRoutes board routes
+pub restarted : (config : Config) (until : ℕ) (records : List Record) (board : Board) → RestartsSessions config until records board → AreSessionsOf config board
+restarted config until records board restarts = record {
+  count = restarts.count;
+  names = λ s within. ap (λ (b : Book). b.machine.names) (restarts.books s within);
+  dials = λ s within. ap (λ (b : Book). b.machine.dials) (restarts.books s within);
+}
+
+is_route : (config : Config) (board : Board) (s : ℕ) → AreSessionsOf config board → s < length config.names → is_none (dial_of config s) ≡ true → IsRoute board s (names_of config s)
+is_route config board s starts within accepts = record {
+  within = subst (λ n. s < n) (sym starts.count) within;
+  accepts = starts.dials s within ∙ ap heart_of (none_is (dial_of config s) accepts);
+  names_are = starts.names s within;
+}
+
+pub routes_begin : (config : Config) (board : Board) (routes : Routes) → AreSessionsOf config board → StartsRoutes config (length config.names) routes → AreRoutes board routes
 routes_begin config board routes sessions starts =
     let accepting = accepting_sessions config (length config.names) in
     record {
@@ -113,7 +136,7 @@ few_routes config routes starts =
     let fewer = count_by-le-length accepts (range_with_len 0 (length config.names)) in
     omega arith
 
-noted_begin : (config : Config) (board : Board) (unkept : List Pending) → StartsSessions config board → unkept ≡ replicate (length config.names) nothing_noted → AreNoted unkept board
+pub noted_begin : (config : Config) (board : Board) (unkept : List Pending) → StartsSessions config board → unkept ≡ replicate (length config.names) nothing_noted → AreNoted unkept board
 noted_begin config board unkept sessions is = record {
   count = ap (λ (ps : List Pending). length ps) is ∙ length-replicate (length config.names) nothing_noted ∙ sym sessions.count;
   each = λ s small.
@@ -123,9 +146,9 @@ noted_begin config board unkept sessions is = record {
 }
 
 pub begins_at_work : (config : Config) (moment : ℕ) (shared : Shared) (e : Engine) → IsConfig config → moment ≤ LAST_MOMENT → IsLinked shared e.sessions → IsInOrder e.sessions
-    → StartsSessions config e.sessions.desk.board → IsReady (entries_of e.sessions.desk.board) e.sessions.desk.board → StartsRoutes config (length config.names) e.lines.routes → StartsLines config e.lines
-    → StartsFigures config moment e → IsAtWork shared e
-begins_at_work config moment shared e is in_time linked in_order sessions ready routes lines figures = record {
+    → AreSessionsOf config e.sessions.desk.board → IsReady (entries_of e.sessions.desk.board) e.sessions.desk.board → StartsRoutes config (length config.names) e.lines.routes
+    → AreNoted e.lines.unkept.items e.sessions.desk.board → length e.lines.buffer.items ≡ MOST_READ → StartsFigures config moment e → IsAtWork shared e
+begins_at_work config moment shared e is in_time linked in_order sessions ready routes noted buffer figures = record {
   linked = linked;
   in_order = in_order;
   set_up = record {
@@ -135,9 +158,9 @@ begins_at_work config moment shared e is in_time linked in_order sessions ready 
     few = linked.few;
     routes = routes_begin config e.sessions.desk.board e.lines.routes sessions routes;
     few_routes = (let count = few_routes config e.lines.routes routes in let few = is.sessions in omega arith);
-    noted = noted_begin config e.sessions.desk.board e.lines.unkept.items sessions lines.unkept;
+    noted = noted;
     steady = record { run = record { before = entries_of e.sessions.desk.board; ready = ready }; in_step = in_order.in_step };
-    buffer = lines.buffer;
+    buffer = buffer;
   };
   moment = subst (λ n. n ≤ LAST_MOMENT) (sym figures.moment) in_time;
   most = (let connections = figures.connections in let most = is.connections in omega arith);
@@ -145,17 +168,17 @@ begins_at_work config moment shared e is in_time linked in_order sessions ready 
 }
 
 -- of a session that dials
-dials_with : (config : Config) (board : Board) (s : ℕ) (plan : DialTo) → StartsSessions config board → s < length config.names → dial_of config s ≡ Some plan → (book_at board s).machine.dials ≡ Some plan.heart
-dials_with config board s plan starts within dials = ap (λ (b : Book). b.machine.dials) (starts.books s within) ∙ ap heart_of dials
+dials_with : (config : Config) (board : Board) (s : ℕ) (plan : DialTo) → AreSessionsOf config board → s < length config.names → dial_of config s ≡ Some plan → (book_at board s).machine.dials ≡ Some plan.heart
+dials_with config board s plan starts within dials = starts.dials s within ∙ ap heart_of dials
 
-plan_begins : (config : Config) (board : Board) (s : ℕ) → StartsSessions config board → s < length config.names → (plan : Option DialTo) → dial_of config s ≡ plan → IfSome plan IsDial → IfSome plan (IsPlanOf board s)
+plan_begins : (config : Config) (board : Board) (s : ℕ) → AreSessionsOf config board → s < length config.names → (plan : Option DialTo) → dial_of config s ≡ plan → IfSome plan IsDial → IfSome plan (IsPlanOf board s)
 plan_begins config board s starts within None dials is = is
 plan_begins config board s starts within (Some plan) dials is = record {
   dials = subst (λ (o : Option ℕ). IsSome o) (sym (dials_with config board s plan starts within dials)) refl;
   wait = is.wait.to_most;
 }
 
-begins_dialling : (config : Config) (board : Board) (d : Dialler) (door : Door) → IsConfig config → StartsSessions config board → StartsDials config d → door.dialled ≡ 0 → IsDialling board door d
+begins_dialling : (config : Config) (board : Board) (d : Dialler) (door : Door) → IsConfig config → AreSessionsOf config board → StartsDials config d → door.dialled ≡ 0 → IsDialling board door d
 begins_dialling config board d door is sessions dials none = record {
   scheduled = record {
     plans = ap (λ (ps : List (Option DialTo)). length ps) dials.plans ∙ is.dialled ∙ sym sessions.count;
@@ -171,11 +194,11 @@ begins_dialling config board d door is sessions dials none = record {
 }
 
 -- where no connection came or was dialled, none is on the wire
-pub begins_online : AreApart [] → (config : Config) (moment : ℕ) (e : Engine) → IsConfig config → StartsSessions config e.sessions.desk.board → StartsLines config e.lines → StartsDials config e.dialler → StartsFigures config moment e
+pub begins_online : AreApart [] → (config : Config) (moment : ℕ) (e : Engine) → IsConfig config → AreSessionsOf config e.sessions.desk.board → e.sessions.desk.board.connections ≡ [] → HasNoLines e.lines → StartsDials config e.dialler → StartsFigures config moment e
     → (door : Door) (links : ℕ → Link) → door.accepted ≡ 0 → door.dialled ≡ 0 → IsOnline e door links
-begins_online none_apart config moment e is sessions lines dials figures door links none undialled =
+begins_online none_apart config moment e is sessions none_came lines dials figures door links none undialled =
     let board = e.sessions.desk.board in
-    let no_connections : length board.connections ≡ 0 = ap (λ (cs : List ConnectionState). length cs) sessions.first.connections in
+    let no_connections : length board.connections ≡ 0 = ap (λ (cs : List ConnectionState). length cs) none_came in
     let no_places : open_places e.lines ≡ [] = ap (λ (ks : List ℕ). ks ++ e.lines.dialled.items) lines.accepted ∙ lines.dialled in
     record {
       wired = record {

@@ -33,12 +33,16 @@ pub record StartsRoutes (config : Config) (count : ℕ) (routes : Routes) : Type
   pub sessions : routes.sessions.items ≡ accepting_sessions config count
   pub names : routes.names.items ≡ map (names_of config) (accepting_sessions config count)
 
--- There is no connection, and no entry of a session was noted.
-pub record StartsLines (config : Config) (w : WireDesk) : Type 0 where
-  pub unkept : w.unkept.items ≡ replicate (length config.names) nothing_noted
+-- There is no connection.
+pub record HasNoLines (w : WireDesk) : Type 0 where
   pub accepted : w.accepted.items ≡ []
   pub dialled : w.dialled.items ≡ []
   pub buffer : length w.buffer.items ≡ MOST_READ
+
+-- Nor was an entry of a session noted.
+pub record StartsLines (config : Config) (w : WireDesk) : Type 0 where
+  pub unkept : w.unkept.items ≡ replicate (length config.names) nothing_noted
+  pub lines : HasNoLines w
 
 -- Each session that dials may do so at once, and no dial was made.
 pub record StartsDials (config : Config) (d : Dialler) : Type 0 where

@@ -19,4 +19,4 @@ mod ticking;
 
 pub use engine::Engine;
 pub use records::{Taken, Turn};
-pub use starting::start;
+pub use starting::{start, start_from};

@@ -5,7 +5,8 @@ ghost use Rattle.std.specs.Option.{is_none};
 ghost use Rattle.connection_core.specs.declared.limits.TheConstants.{MOST_READ};
 ghost use Rattle.engine_config.specs.Config.{IsConfig, dial_of, names_of};
 ghost use Rattle.engine_loop.specs.Engines.{IsAtWork, IsOnline};
-ghost use Rattle.engine_loop.specs.Starts.{StartsDials, StartsFigures, StartsLines, StartsRoutes, dialler_of, library_desk_of, wire_desk_of};
+ghost use Rattle.engine_loop.specs.Starts.{HasNoLines, StartsDials, StartsFigures, StartsLines, StartsRoutes, dialler_of, library_desk_of, wire_desk_of};
+ghost use Rattle.engine_start.specs.Restarts.{AreRecordsOf, NotesClosing, RestartsSessions, ResumesLeases, ResumesTable, hold_until};
 ghost use Rattle.engine_start.specs.Starts.{StartsDesk, StartsEngine, StartsLibraries, StartsSessions, StartsTable};
 ghost use Rattle.gate_io.specs.Wire.{Door, Link};
 ghost use Rattle.session_desk.specs.Steps.{nothing_noted};
@@ -16,6 +17,7 @@ use engine_config::Config;
 use engine_end::RecordRoom;
 use engine_start::LibraryEnds;
 use gate_io::{Bytes, LAST_MOMENT, NoMemory};
+use lease_core::Record;
 use library_desk::Shared;
 use session_book::Unkept;
 use session_core::Names;
@@ -50,9 +52,58 @@ pub fn start(
     boards_stay_ready();
     places_stay_apart();
     let (sessions, shared, ends) = engine_start::start(alloc, &config, moment)?;
+    let unkept = unkept(alloc, config.names.as_slice().len())?;
     let engine = Engine {
         sessions,
-        lines: lines(alloc, &config)?,
+        lines: lines(alloc, &config, unkept)?,
+        connections: config.connections,
+        accepted: 0,
+        hold: config.hold,
+        moment,
+        spare: spare(alloc, &config)?,
+        failed: false,
+        dialler: dialler(alloc, config)?,
+    };
+    Ok((engine, shared, ends))
+}
+
+/// An engine as `start` makes it, behind the records of the runs before: each session goes on with its
+/// journal, its logs and the number that it expected behind its last record, and the lease table behind the
+/// last leases. A journal that a run left open is closed first: by the hold of a last release with an heir,
+/// by the end of an active lease, by the end of a bound connection. `fresh` hands these entries out first.
+/// It takes time in proportion to the records.
+pub fn start_from(
+    alloc: Global,
+    config: Config,
+    moment: u64,
+    records: Vec<Record>,
+) -> Result<(Engine, Shared, Vec<LibraryEnds>), NoMemory>
+    requires config { IsConfig config }
+    requires moment { moment ≤ LAST_MOMENT }
+    requires records { AreRecordsOf config records.items }
+    ensures work { IfOk result (λ made. IsAtWork made.1 made.0) }
+    // On each wire of which nothing was accepted or dialled.
+    ensures online { IfOk result (λ made. (door : Door) (links : ℕ → Link) → door.accepted ≡ 0 → door.dialled ≡ 0 → IsOnline made.0 door links) }
+    ensures sessions { IfOk result (λ made. RestartsSessions config (hold_until config moment) records.items (library_desk_of made.0).desk.board) }
+    ensures table { IfOk result (λ made. ResumesTable config (library_desk_of made.0).desk.board made.1) }
+    ensures leases { IfOk result (λ made. (s : ℕ) → s < length config.names → ResumesLeases (library_desk_of made.0).desk.board (library_desk_of made.0).desk.seat s) }
+    ensures desk { IfOk result (λ made. StartsDesk config moment made.1 (library_desk_of made.0)) }
+    ensures engine { IfOk result (λ made. StartsEngine config made.1 (library_desk_of made.0).ends.items) }
+    ensures libraries { IfOk result (λ made. StartsLibraries config made.1 made.2.items) }
+    ensures unkept { IfOk result (λ made. NotesClosing config records.items (library_desk_of made.0).desk.board (wire_desk_of made.0).unkept.items) }
+    ensures routes { IfOk result (λ made. StartsRoutes config (length config.names) (wire_desk_of made.0).routes) }
+    ensures lines { IfOk result (λ made. HasNoLines (wire_desk_of made.0)) }
+    ensures dials { IfOk result (λ made. StartsDials config (dialler_of made.0)) }
+    ensures figures { IfOk result (λ made. StartsFigures config moment made.0) }
+{
+    boards_stay_ready();
+    places_stay_apart();
+    let (sessions, shared, ends, unkept) = engine_start::start_from(
+        alloc, &config, moment, records,
+    )?;
+    let engine = Engine {
+        sessions,
+        lines: lines(alloc, &config, unkept)?,
         connections: config.connections,
         accepted: 0,
         hold: config.hold,
@@ -76,15 +127,16 @@ fn spare(alloc: Global, config: &Config) -> Result<RecordRoom, NoMemory>
     )
 }
 
-/// What is kept of the connections while there is none.
-fn lines(alloc: Global, config: &Config) -> Result<WireDesk, NoMemory>
+/// What is kept of the connections while there is none, beside what was noted of the sessions' entries.
+fn lines(alloc: Global, config: &Config, unkept: Vec<Unkept>) -> Result<WireDesk, NoMemory>
     requires config { IsConfig config.now }
     ensures routes { IfOk result (λ made. StartsRoutes config.now (length config.now.names) made.routes) }
-    ensures lines { IfOk result (StartsLines config.now) }
+    ensures unkept { IfOk result (λ made. made.unkept.items ≡ unkept.items) }
+    ensures lines { IfOk result HasNoLines }
 {
     Ok(WireDesk {
         routes: routes(alloc, config)?,
-        unkept: unkept(alloc, config.names.as_slice().len())?,
+        unkept,
         accepted: Vec::new(alloc),
         dialled: Vec::new(alloc),
         buffer: buffer(alloc)?,
