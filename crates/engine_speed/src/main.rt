@@ -120,6 +120,18 @@ fn answer_all(
     bail!("some orders were not answered")
 }
 
+// How many messages the session's outbound log has as the run ends.
+fn end(alloc: Global, shared: &Shared, gateway: Gateway) -> Result<u64, anyhow::Error>
+    requires over { IsOver shared.now gateway.engine gateway.wire }
+{
+    let Gateway { engine, .. } = gateway;
+    let Ok(left) = engine.finish(alloc, shared, Vec::new(alloc)) else {
+        bail!("the run did not end")
+    };
+    let session = left.sessions.as_slice().first().context("a session")?;
+    Ok(session.outbound.len())
+}
+
 // How many nanoseconds it takes to answer so many orders.
 fn orders<R: Clock>(rt: &R, alloc: Global, count: u64) -> Result<u128, anyhow::Error> {
     let input = morning(alloc, count)?;
@@ -132,7 +144,8 @@ fn orders<R: Clock>(rt: &R, alloc: Global, count: u64) -> Result<u128, anyhow::E
     let start = Instant::now(rt)?;
     let written = answer_all(alloc, &shared, &mut gateway, &mut library, count)?;
     let time = start.elapsed(rt)?;
-    if written < count {
+    // (the Logon's answer was written before)
+    if written < count || end(alloc, &shared, gateway)? != count.wrapping_add(1) {
         bail!("some reports were not written");
     }
     Ok(time.as_nanos())
