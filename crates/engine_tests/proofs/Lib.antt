@@ -1,0 +1,2 @@
+mod Outset
+mod Outside

@@ -1,0 +1,74 @@
+//! Texts in which `|` stands for SOH, and their frames.
+
+use gate_io::NoMemory;
+use std::alloc::Global;
+
+/// 2026-01-05 09:30:00.000
+pub const T: u64 = 1_767_605_400_000;
+
+/// The bytes of a text in which `|` stands for SOH, `@` for the morning's beginning as field 52 has it, and
+/// with a number n `(n)` for BUYER's header, `[n]` for DESK's, `{n}` for HUB's, and `<n>` for GATE's to
+/// BUYER.
+pub fn soh(alloc: Global, text: &str) -> Result<Vec<u8>, NoMemory> {
+    let mut bytes = Vec::new(alloc);
+    for byte in text.as_bytes() {
+        match *byte {
+            b'|' => bytes.push(1)?,
+            b'@' => bytes.extend_from_slice(b"20260105-09:30:00.000")?,
+            b'(' => bytes.extend_from_slice(b"49=BUYER\x0156=GATE\x0134=")?,
+            b'[' => bytes.extend_from_slice(b"49=DESK\x0156=GATE\x0134=")?,
+            b'{' => bytes.extend_from_slice(b"49=HUB\x0156=GATE\x0134=")?,
+            b'<' => bytes.extend_from_slice(b"49=GATE\x0156=BUYER\x0134=")?,
+            b')' | b']' | b'}' | b'>' => bytes.extend_from_slice(
+                b"\x0152=20260105-09:30:00.000\x01",
+            )?,
+            _ => bytes.push(*byte)?,
+        }
+    }
+    Ok(bytes)
+}
+
+/// The frame of a body: BeginString, BodyLength, the body, CheckSum.
+pub fn frame(alloc: Global, body: &[u8]) -> Result<Vec<u8>, NoMemory> {
+    let head = format!(in alloc; "8=FIX.4.4\x019={}\x01", body.len())?;
+    let mut frame = Vec::from_slice(alloc, head.as_bytes())?;
+    frame.extend_from_slice(body)?;
+    let tail = format!(in alloc; "10={:03}\x01", sum(frame.as_slice()))?;
+    frame.extend_from_slice(tail.as_bytes())?;
+    Ok(frame)
+}
+
+// The sum of the bytes modulo 256.
+fn sum(bytes: &[u8]) -> u8 {
+    let mut sum = 0u8;
+    for byte in bytes {
+        sum = sum.wrapping_add(*byte);
+    }
+    sum
+}
+
+/// The frames of these bodies, one behind the other.
+pub fn frames(alloc: Global, texts: &[&str]) -> Result<Vec<u8>, NoMemory> {
+    let mut bytes = Vec::new(alloc);
+    for text in texts {
+        bytes.extend_from_slice(frame(alloc, soh(alloc, text)?.as_slice())?.as_slice())?;
+    }
+    Ok(bytes)
+}
+
+/// The body of BUYER's order with a number.
+pub fn order(alloc: Global, number: u64) -> Result<Vec<u8>, NoMemory> {
+    soh(
+        alloc,
+        format!(in alloc; "35=D|({number})11=A{number}|")?.as_str(),
+    )
+}
+
+/// The frames of BUYER's orders with the numbers from one to another.
+pub fn orders(alloc: Global, first: u64, last: u64) -> Result<Vec<u8>, NoMemory> {
+    let mut bytes = Vec::new(alloc);
+    for number in first..last.saturating_add(1) {
+        bytes.extend_from_slice(frame(alloc, order(alloc, number)?.as_slice())?.as_slice())?;
+    }
+    Ok(bytes)
+}
