@@ -1,2 +1,1 @@
 mod Outset
-mod Outside

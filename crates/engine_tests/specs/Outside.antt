@@ -6,12 +6,6 @@ use Rattle.gate_io.specs.MemWire.{WireState, door_of, link_at}
 use Rattle.library_api.specs.Ends.{EndsView}
 use Rattle.library_desk.specs.declared.shared.Shared.{Shared}
 
--- The wire tells as much as before of what was accepted and dialled, written and closed.
-pub record TellsTheSame (old new : WireState) : Type 0 where
-  pub door : door_of new ≡ door_of old
-  pub closed : (c : ℕ) → (link_at new c).closed ≡ (link_at old c).closed
-  pub written : (c : ℕ) → (link_at new c).written ≡ (link_at old c).written
-
 -- the engine's connections are on this wire
 abbrev pub IsOver : Shared → Engine → WireState → Type 0
 IsOver shared e w = IsEngine shared e (door_of w) (link_at w)

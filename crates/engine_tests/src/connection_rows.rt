@@ -7,11 +7,13 @@ use crate::facts::Fact::{
 };
 use crate::making::Limits;
 use crate::steps::Step::{
-    Connect, Finishes, Hears, Is, Orders, Polls, Reads, Requests, Trickles, Turn,
+    Connect, Finishes, Hears, Is, Orders, Polls, Reads, Requests, Tells, Trickles, Turn,
 };
 use crate::steps::{Step, follow, follow_within};
 use crate::texts::T;
 use gate_io::{Accepted, WireGot};
+use lease_core::Entry;
+use lease_core::Entry::{Admin, Arrive, Bind, Leave};
 use library_desk::LibTurn::NoCommand;
 use session_core::Cause;
 use std::test::Fail;
@@ -22,6 +24,14 @@ const DESK: &str = "35=A|[1]98=0|108=30|";
 
 const ANSWER: &str =
     "8=FIX.4.4|9=64|35=A|49=GATE|56=BUYER|34=1|52=20260105-09:30:00.000|98=0|108=30|10=148|";
+
+const GRANTED: Entry = Entry::Granted {
+    library: 1,
+    nr: 1,
+    lease: 1,
+    from: 0,
+    start: 2,
+};
 
 // A library finds the two orders.
 const FIRST_ASKS: Step = Requests(1, 0, 0, 1);
@@ -61,6 +71,16 @@ fn a_logon_is_answered_and_orders_are_taken(rt: HostRuntime) -> Result<(), Fail>
         Is(Connection(0, 0, Some(Cause::End))),
         Is(Closed(&[0])),
         Is(TookText(0, ANSWER)),
+        Tells(
+            0,
+            &[
+                Bind { c: 0 },
+                Admin { number: 1 },
+                Arrive { pos: 0 },
+                Arrive { pos: 1 },
+                Leave { c: 0 },
+            ],
+        ),
     ];
     follow(&rt, rt.alloc(), &steps)
 }
@@ -102,6 +122,17 @@ fn bytes_that_come_one_a_turn_are_as_good(rt: HostRuntime) -> Result<(), Fail> {
         FIRST_HAS_TWO,
         Reads(1, 1, 0, 2),
         Polls(1, Nothing),
+        Tells(
+            0,
+            &[
+                Bind { c: 0 },
+                Admin { number: 1 },
+                Arrive { pos: 0 },
+                Arrive { pos: 1 },
+                Leave { c: 0 },
+                GRANTED,
+            ],
+        ),
     ];
     follow(&rt, rt.alloc(), &steps)
 }

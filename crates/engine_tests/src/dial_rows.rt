@@ -7,11 +7,12 @@ use crate::facts::Fact::{
 };
 use crate::making::Limits;
 use crate::steps::Step::{
-    Answers, At, Connect, FailsWrite, Finishes, Hears, Holds, Is, Polls, Requests, Turn,
+    Answers, At, Connect, FailsWrite, Finishes, Hears, Holds, Is, Polls, Requests, Tells, Turn,
 };
 use crate::steps::{follow_dialling, follow_within};
 use crate::texts::T;
 use gate_io::{Accepted, WireGot};
+use lease_core::Entry::{Admin, Bind, Leave};
 use session_core::Cause;
 use std::test::Fail;
 
@@ -32,6 +33,7 @@ fn a_session_dials_and_asks_for_a_logon(rt: HostRuntime) -> Result<(), Fail> {
             1_024,
             "8=FIX.4.4|9=62|35=A|49=GATE|56=HUB|34=1|52=20260105-09:30:00.000|98=0|108=30|10=234|",
         )),
+        Tells(2, &[Bind { c: 1_024 }, Admin { number: 1 }]),
         Hears(1_024, HUB),
         Turn,
         Is(Writes(0)),
@@ -175,6 +177,10 @@ fn an_answer_has_to_fit(rt: HostRuntime) -> Result<(), Fail> {
         Is(Connection(0, 1_024, Some(Cause::BadLogon { tag: 108 }))),
         Is(Bound(2, None)),
         Is(Closed(&[1_024])),
+        Tells(
+            2,
+            &[Bind { c: 1_024 }, Admin { number: 1 }, Leave { c: 1_024 }],
+        ),
     ];
     follow_dialling(&rt, rt.alloc(), &steps)
 }

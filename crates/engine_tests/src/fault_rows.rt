@@ -151,6 +151,7 @@ fn a_blocked_connection_that_ends_is_closed(rt: HostRuntime) -> Result<(), Fail>
         Turn,
         Is(Writes(0)),
         Is(TookText(0, "8=FIX.4.4|")),
+        Is(Closed(&[0])),
     ];
     follow(&rt, rt.alloc(), &steps)
 }

@@ -4,11 +4,12 @@ use crate::application::Seen::{Granted, Message, Nothing, Refused, Stale};
 use crate::facts::Fact::{Owner, Serves, Took, Writes};
 use crate::steps::Step::{
     At, Beats, Connect, GivesBack, HandsOn, Hears, Is, IsRefused, Orders, Polls, Reads, Requests,
-    Sends, Turn,
+    Sends, Tells, Turn,
 };
 use crate::steps::{Step, follow};
 use crate::texts::T;
-use lease_core::{Standing, Why, Word};
+use lease_core::Entry::{Admin, Arrive, Bind};
+use lease_core::{Entry, Standing, Why, Word};
 use library_api::SendRefusal;
 use library_desk::LibTurn::{Answered, NoCommand};
 use std::test::Fail;
@@ -28,6 +29,15 @@ const FIRST_IS_GRANTED: Step = Polls(
         start: 0,
     },
 );
+
+// And so tells the journal.
+const FIRST_GRANT: Entry = Entry::Granted {
+    library: 1,
+    nr: 1,
+    lease: 1,
+    from: 0,
+    start: 0,
+};
 
 // The second lease of session 0, to a library by its request.
 const fn second_lease(library: u8, nr: u32) -> Step {
@@ -177,6 +187,36 @@ fn a_library_reads_and_sends(rt: HostRuntime) -> Result<(), Fail> {
         Sends(1, 0, "35=8|37=O3|", 1, 3),
         Turn,
         Is(Took(0, &["35=8|<4>37=O3|", "35=0|<5>112=PING|"])),
+        Tells(
+            0,
+            &[
+                Bind { c: 0 },
+                Admin { number: 1 },
+                FIRST_GRANT,
+                Arrive { pos: 0 },
+                Arrive { pos: 1 },
+                Arrive { pos: 2 },
+                Entry::Send {
+                    lease: 1,
+                    library: 1,
+                    ordinal: 1,
+                    number: 2,
+                },
+                Entry::Send {
+                    lease: 1,
+                    library: 1,
+                    ordinal: 2,
+                    number: 3,
+                },
+                Entry::Send {
+                    lease: 1,
+                    library: 1,
+                    ordinal: 3,
+                    number: 4,
+                },
+                Admin { number: 5 },
+            ],
+        ),
     ];
     follow(&rt, rt.alloc(), &steps)
 }
@@ -282,6 +322,29 @@ fn a_session_that_was_taken_back_is_had_by_another(rt: HostRuntime) -> Result<()
         ),
         Reads(2, 2, 1, 3),
         Polls(2, Nothing),
+        Tells(
+            0,
+            &[
+                Bind { c: 0 },
+                Admin { number: 1 },
+                FIRST_GRANT,
+                Arrive { pos: 0 },
+                Arrive { pos: 1 },
+                Arrive { pos: 2 },
+                Entry::Timeout {
+                    lease: 1,
+                    library: 1,
+                    count: 0,
+                },
+                Entry::Granted {
+                    library: 2,
+                    nr: 1,
+                    lease: 2,
+                    from: 1,
+                    start: 3,
+                },
+            ],
+        ),
     ];
     follow(&rt, rt.alloc(), &steps)
 }
@@ -347,6 +410,40 @@ fn a_hold_lapses_at_its_moment(rt: HostRuntime) -> Result<(), Fail> {
         Turn,
         second_lease(3, 2),
         Is(Owner(0, 3, 2)),
+        Tells(
+            0,
+            &[
+                Bind { c: 0 },
+                Admin { number: 1 },
+                FIRST_GRANT,
+                Entry::Release {
+                    lease: 1,
+                    library: 1,
+                    count: 0,
+                    heir: 2,
+                },
+                Entry::Hold {
+                    lease: 1,
+                    until: T + 2_000,
+                },
+                Entry::Refused {
+                    library: 3,
+                    nr: 1,
+                    why: Why::Reserved {
+                        for_library: 2,
+                        until: T + 2_000,
+                    },
+                },
+                Entry::Lapse { lease: 1 },
+                Entry::Granted {
+                    library: 3,
+                    nr: 2,
+                    lease: 2,
+                    from: 0,
+                    start: 0,
+                },
+            ],
+        ),
     ];
     follow(&rt, rt.alloc(), &steps)
 }

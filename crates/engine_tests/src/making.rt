@@ -112,6 +112,7 @@ pub fn make(alloc: Global, limits: Limits) -> Result<(Shared, Sides), Fail>
         wire: TappedWire::new(alloc),
         clock: StepClock::new(T),
         turn: None,
+        records: Vec::new(alloc),
     };
     let sides = Sides {
         gateway,

@@ -1,7 +1,8 @@
 //! What happens in a row, step by step, with what each comes to.
 
 ghost use Rattle.std.specs.Prelude.{◌≡◌, ◌<◌, ◌≤◌, OnOk, Some, length, slice_get};
-ghost use Rattle.engine_tests.specs.Outside.{AreEnds, IsOver, TellsTheSame};
+ghost use Rattle.engine_tests.specs.Outside.{AreEnds, IsOver};
+ghost use Rattle.wire_desk.specs.Lines.{StaysKnown};
 
 use crate::application::{Application, Seen};
 use crate::facts::{Fact, is_so};
@@ -9,7 +10,9 @@ use crate::gateway::Gateway;
 use crate::making::{Limits, Sides, make};
 use crate::tapped_wire::TappedWire;
 use crate::texts::{T, frames, order, orders, soh};
+use engine_loop::laws::engines_stay;
 use gate_io::{MOST_CONNECTIONS, MOST_DIALLED, NoMemory};
+use lease_core::Entry;
 use lease_words::Sent;
 use library_api::{LibraryEnds2, Links, Released, SendRefusal};
 use library_desk::Shared;
@@ -43,6 +46,8 @@ pub enum Step {
     Turns(u32),
     /// The frames of these bodies come, one byte before each turn.
     Trickles(u32, &'static [&'static str]),
+    /// These entries came to the session's journal since the last of these steps.
+    Tells(u16, &'static [Entry]),
     // Of a library.
     /// It requests a session from a position on, by this number.
     Requests(u8, u16, u64, u32),
@@ -88,7 +93,7 @@ impl<'a> Libraries<'a> {
 
 // What comes at the wire.
 fn comes(alloc: Global, wire: &mut TappedWire, step: Step) -> Result<bool, NoMemory>
-    ensures { OnOk result (TellsTheSame wire.old.wire wire.new.wire) }
+    ensures { OnOk result (StaysKnown wire.old.wire wire.new.wire) }
 {
     match step {
         Step::Connect => wire.connect(alloc),
@@ -101,7 +106,7 @@ fn comes(alloc: Global, wire: &mut TappedWire, step: Step) -> Result<bool, NoMem
 
 // What comes to an end at the wire, fails or is blocked.
 fn stops(wire: &mut TappedWire, step: Step) -> bool
-    ensures { TellsTheSame wire.old.wire wire.new.wire }
+    ensures { StaysKnown wire.old.wire wire.new.wire }
 {
     match step {
         Step::Finishes(c) => wire.finish(c),
@@ -122,6 +127,7 @@ fn turn(alloc: Global, shared: &Shared, gateway: &mut Gateway) -> Result<(), NoM
     requires running { IsOver shared.now gateway.old.engine gateway.old.wire.wire }
     ensures running { OnOk result (IsOver shared.now gateway.new.engine gateway.new.wire.wire) }
 {
+    engines_stay();
     gateway.wire.reserve(alloc)?;
     let turn = gateway
         .engine
@@ -147,7 +153,6 @@ fn turns(
 }
 
 // It makes a turn behind each of the bytes.
-#[tactic(auto, using(crate::proofs::Outside::stays_over))]
 fn trickles(
     alloc: Global,
     shared: &Shared,
@@ -158,6 +163,7 @@ fn trickles(
     requires running { IsOver shared.now gateway.old.engine gateway.old.wire.wire }
     ensures running { OnOk result (IsOver shared.now gateway.new.engine gateway.new.wire.wire) }
 {
+    engines_stay();
     for byte in bytes {
         if !gateway.wire.give(alloc, c, &[*byte])? {
             return Ok(false);
@@ -165,6 +171,29 @@ fn trickles(
         turn(alloc, shared, gateway)?;
     }
     Ok(true)
+}
+
+// Whether these entries came to a session's journal since the last call for it.
+fn tells(
+    alloc: Global,
+    _shared: &Shared,
+    gateway: &mut Gateway,
+    s: u16,
+    entries: &[Entry],
+) -> Result<bool, NoMemory>
+    requires running { IsOver _shared.now gateway.old.engine gateway.old.wire.wire }
+    ensures running { OnOk result (IsOver _shared.now gateway.new.engine gateway.new.wire.wire) }
+{
+    let mut records = gateway.engine.fresh(alloc)?;
+    gateway.records.append(&mut records)?;
+    let mut told = Vec::new(alloc);
+    for record in gateway.records.as_slice() {
+        if record.s == s {
+            told.push(record.entry)?;
+        }
+    }
+    gateway.records.retain(|record| record.s != s);
+    Ok(told.as_slice() == entries)
 }
 
 // What a library does.
@@ -238,11 +267,11 @@ fn library_of(step: Step) -> u8 {
 }
 
 // What the engine does, what comes at its wire, and what is so.
-#[tactic(auto, using(crate::proofs::Outside::stays_over))]
 fn runs(alloc: Global, shared: &Shared, gateway: &mut Gateway, step: Step) -> Result<bool, NoMemory>
     requires running { IsOver shared.now gateway.old.engine gateway.old.wire.wire }
     ensures running { OnOk result (IsOver shared.now gateway.new.engine gateway.new.wire.wire) }
 {
+    engines_stay();
     match step {
         Step::At(past) => {
             gateway.clock.set(T.saturating_add(past));
@@ -253,6 +282,7 @@ fn runs(alloc: Global, shared: &Shared, gateway: &mut Gateway, step: Step) -> Re
         Step::Trickles(c, texts) => {
             trickles(alloc, shared, gateway, c, frames(alloc, texts)?.as_slice())
         }
+        Step::Tells(s, entries) => tells(alloc, shared, gateway, s, entries),
         Step::Is(fact) => is_so(alloc, gateway, fact),
         _ => comes(alloc, &mut gateway.wire, step),
     }

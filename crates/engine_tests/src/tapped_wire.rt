@@ -1,8 +1,8 @@
 //! A memory wire of which a test can tell what was asked of it and written to it.
 
 ghost use Rattle.std.specs.Prelude.{◌≡◌, length, IsTrue, OnOk};
-ghost use Rattle.engine_tests.specs.Outside.{TellsTheSame};
 ghost use Rattle.gate_io.specs.MemWire.{IsMade, door_of, link_at, new_wire};
+ghost use Rattle.wire_desk.specs.Lines.{StaysKnown};
 
 use gate_io::{
     Accepted, Dial, Dialled, FIRST_DIALLED, Listened, MOST_CONNECTIONS, MOST_DIALLED, MemWire,
@@ -85,7 +85,7 @@ impl TappedWire {
 
     /// One more connection comes, if there are fewer than can be.
     pub fn connect(&mut self, alloc: Global) -> Result<bool, NoMemory>
-        ensures { OnOk result (TellsTheSame self.old.wire self.new.wire) }
+        ensures { OnOk result (StaysKnown self.old.wire self.new.wire) }
     {
         if self.coming >= MOST_CONNECTIONS {
             return Ok(false);
@@ -97,7 +97,7 @@ impl TappedWire {
 
     /// One more dial succeeds, if there are fewer than can be.
     pub fn take(&mut self, alloc: Global) -> Result<bool, NoMemory>
-        ensures { OnOk result (TellsTheSame self.old.wire self.new.wire) }
+        ensures { OnOk result (StaysKnown self.old.wire self.new.wire) }
     {
         if self.answering >= MOST_DIALLED {
             return Ok(false);
@@ -120,7 +120,7 @@ impl TappedWire {
 
     /// Bytes come on a connection, if it was made.
     pub fn give(&mut self, alloc: Global, c: u32, bytes: &[u8]) -> Result<bool, NoMemory>
-        ensures { OnOk result (TellsTheSame self.old.wire self.new.wire) }
+        ensures { OnOk result (StaysKnown self.old.wire self.new.wire) }
     {
         let is_made = self.is_made(c);
         if is_made {
@@ -131,7 +131,7 @@ impl TappedWire {
 
     /// The input of a connection ends, if it was made.
     pub fn finish(&mut self, c: u32) -> bool
-        ensures { TellsTheSame self.old.wire self.new.wire }
+        ensures { StaysKnown self.old.wire self.new.wire }
     {
         let is_made = self.is_made(c);
         if is_made {
@@ -142,7 +142,7 @@ impl TappedWire {
 
     /// The next read of a connection fails, if it was made.
     pub fn fail_read(&mut self, c: u32) -> bool
-        ensures { TellsTheSame self.old.wire self.new.wire }
+        ensures { StaysKnown self.old.wire self.new.wire }
     {
         let is_made = self.is_made(c);
         if is_made {
@@ -153,7 +153,7 @@ impl TappedWire {
 
     /// A connection takes so many more bytes before a write fails, if it was made.
     pub fn fail_write(&mut self, c: u32, after: u64) -> bool
-        ensures { TellsTheSame self.old.wire self.new.wire }
+        ensures { StaysKnown self.old.wire self.new.wire }
     {
         let is_made = self.is_made(c);
         if is_made {
@@ -164,7 +164,7 @@ impl TappedWire {
 
     /// A connection takes so many more bytes before writes are blocked, if it was made.
     pub fn block(&mut self, c: u32, after: u64) -> bool
-        ensures { TellsTheSame self.old.wire self.new.wire }
+        ensures { StaysKnown self.old.wire self.new.wire }
     {
         let is_made = self.is_made(c);
         if is_made {
@@ -175,7 +175,7 @@ impl TappedWire {
 
     /// Ends the block of a connection, if it was made.
     pub fn unblock(&mut self, c: u32) -> bool
-        ensures { TellsTheSame self.old.wire self.new.wire }
+        ensures { StaysKnown self.old.wire self.new.wire }
     {
         let is_made = self.is_made(c);
         if is_made {
@@ -186,14 +186,14 @@ impl TappedWire {
 
     /// The next accept fails.
     pub fn fail_accept(&mut self)
-        ensures { TellsTheSame self.old.wire self.new.wire }
+        ensures { StaysKnown self.old.wire self.new.wire }
     {
         self.wire.fail_accept();
     }
 
     /// Room for what a turn writes.
     pub fn reserve(&mut self, alloc: Global) -> Result<(), NoMemory>
-        ensures { OnOk result (TellsTheSame self.old.wire self.new.wire) }
+        ensures { OnOk result (StaysKnown self.old.wire self.new.wire) }
     {
         self.wire.reserve(alloc, ROOM)
     }
