@@ -3,7 +3,9 @@
 ghost use Rattle.std.specs.Prelude.{◌≡◌, ◌≢◌, ℕ, ◌<◌, ◌≤◌, ◌+◌, [], length, map, All, IfSome, OnOk, OnErr, true, false};
 ghost use Rattle.std.specs.VecDeque.{deque_capacity, deque_len};
 ghost use Rattle.lease_desk.specs.Desk.{Agrees, Gathers, GoesOn, HasRoom, InTurn, IsInStep, Rests, TakesBack, TakesBackFrom, TakesItems, owner_at};
-ghost use Rattle.lease_words.specs.Leases.{is_running};
+ghost use Rattle.lease_words.specs.Facts.{OthersTaken};
+ghost use Rattle.lease_words.specs.Leases.{Each, is_running};
+ghost use Rattle.lease_words.specs.Tells.{IsSettled};
 ghost use Rattle.lease_words.specs.Views.{engine_at, pending};
 ghost use Rattle.resend_plan.specs.Fit.{IsFit};
 ghost use Rattle.switchboard.specs.Board.{book_at, place_at};
@@ -43,6 +45,11 @@ impl LeaseDesk {
         ensures agrees { Agrees self.new.board self.new.seat s }
         ensures table { self.new.seat.table ≡ self.old.seat.table }
         ensures in_step { IsInStep self.old.board self.old.seat → IsInStep self.new.board self.new.seat }
+        // Of each library that was settled, the seat then has all that it did of the session; and of the
+        // others than the last lease's all was taken before.
+        ensures settled { OnOk result (Each (IsSettled s (engine_at self.new.seat s)) self.new.seat.settled) }
+        ensures others_taken { OnOk result (OthersTaken leases.now.shape.libraries (engine_at self.new.seat s)) }
+        ensures seats { self.new.seat.settled ≡ self.old.seat.settled }
         ensures goes_on { (j : ℕ) → GoesOn self.old.board self.new.board j }
     {
         boards_stay_sound();
@@ -183,6 +190,8 @@ fn take_all(leases: &Leases, seat: &mut EngineSeat, s: u16, bodies: &mut VecDequ
     ensures fit { All IsFit bodies.new.items }
     ensures count { length bodies.new.items ≡ pending (engine_at seat.old s) }
     ensures none_left { pending (engine_at seat.new s) ≡ 0 }
+    ensures settled { Each (IsSettled s (engine_at seat.old s)) seat.old.settled → Each (IsSettled s (engine_at seat.new s)) seat.new.settled }
+    ensures others_taken { OthersTaken leases.now.shape.libraries (engine_at seat.old s) → OthersTaken leases.now.shape.libraries (engine_at seat.new s) }
     ensures table { seat.new.table ≡ seat.old.table }
 {
     fit_bodies_are_bodies();

@@ -17,6 +17,8 @@ loop-item-preserved c =
       takes = subst (TakesItems c.args.s c.args.seat.now c.take.new.seat) (sym pushed) (next_take c.args.s c.args.seat.now c.loop-item.seat c.take.new.seat c.loop-item.bodies.items item c.loop-item.invariant.takes told.item told.session);
       fit = subst (All IsFit) (sym pushed) (All-push IsFit c.loop-item.bodies.items item.body c.loop-item.invariant.fit (item_fit c.fit_bodies_are_bodies.ensures item.body item.fit item.short));
       count = (let more = length_push c.loop-item.bodies.items item.body in let left = told.pending in let was = c.loop-item.invariant.count in rw pushed (omega arith));
+      settled = λ was. told.told (c.loop-item.invariant.settled was);
+      others_taken = λ was. told.others;
       table = grind (arith, common_steps);
       capacity = grind (arith, common_steps);
     }

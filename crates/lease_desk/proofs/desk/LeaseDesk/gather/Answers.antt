@@ -1,7 +1,10 @@
 use Rattle.std.proofs.Common.{length, ap, subst, sym, ◌∙◌}
 use Rattle.lease_core.specs.Lines.{lines_of, missing_sends, raised}
 use Rattle.lease_words.specs.declared.view.EngineSession.{EngineSession}
-use Rattle.lease_words.specs.Views.{engine_at, pending}
+use Rattle.lease_words.specs.Facts.{OthersTaken}
+use Rattle.lease_words.specs.Leases.{Each}
+use Rattle.lease_words.specs.Tells.{IsSettled}
+use Rattle.lease_words.specs.Views.{EngineView, engine_at, pending}
 use Rattle.session_book.specs.Book.{Desk}
 use Rattle.switchboard.specs.Board.{book_at, place_at}
 use Rattle.lease_words.specs.Sees.{after_look}
@@ -36,6 +39,17 @@ returns-clause-agrees c =
     news_agree c.args.s c.show.new.self c.take_all.new.seat (raised known.lines c.look-word.result) known.published (length (book_at c.make_room.new.self.board c.args.s).inbound) c.take_all.ensures.takes.items (engine_at c.look-word.new.seat c.args.s)
     (c.show.ensures.lines ∙ ap (λ lines. raised lines c.look-word.result) agrees.lines) (ap (λ es. es.lines) c.look-word.ensures.session) (ap (λ es. es.published) c.look-word.ensures.session) agrees.published
     (ap (λ (d : Desk). length d.book.inbound) c.show.ensures.news) c.take_all.ensures.takes.known c.take_all.ensures.none_left
+
+pub returns-clause-settled : goal.returns-clause-settled
+returns-clause-settled c =
+    let looked : Each (IsSettled c.args.s (engine_at c.look-word.new.seat c.args.s)) c.look-word.new.seat.settled =
+    subst (λ (v : EngineView). Each (IsSettled c.args.s (engine_at c.look-word.new.seat c.args.s)) v.settled) (sym c.look-word.ensures.seat)
+    (subst (λ (es : EngineSession). Each (IsSettled c.args.s es) c.make_room.new.self.seat.settled) (sym c.look-word.ensures.session) c.look-word.ensures.settled) in
+    c.take_all.ensures.settled looked
+
+pub returns-clause-others_taken : goal.returns-clause-others_taken
+returns-clause-others_taken c =
+    c.take_all.ensures.others_taken (subst (OthersTaken c.args.leases.now.shape.libraries) (sym c.look-word.ensures.session) c.look-word.ensures.others)
 
 pub returns-clause-in_step : goal.returns-clause-in_step
 returns-clause-in_step c =
