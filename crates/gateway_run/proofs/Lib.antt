@@ -1,3 +1,4 @@
+pub mod ByPlace
 pub mod Digits
 pub mod Bodies
 pub mod Shares

@@ -8,10 +8,10 @@ use Rattle.fix_fields.specs.Field.{Field}
 use Rattle.fix_fields.specs.Number.{number_of}
 use Rattle.fix_fields.specs.Reading.{fields_of, first_value}
 use Rattle.fix_fields.specs.declared.error.FieldError.{FieldError}
-use Rattle.script_text.specs.declared.causes.Cause.{Cause}
-use Rattle.script_text.specs.declared.causes.Cause.TheVariants.{NotLogon, NoSuchSession, BadLogon, NoNumber}
+use Rattle.gateway_run.specs.declared.causes.Cause.{Cause}
+use Rattle.gateway_run.specs.declared.causes.Cause.TheVariants.{NotLogon, NoSuchSession, BadLogon, NoNumber}
 use Rattle.script_text.specs.declared.config.Names.{Names}
-use Rattle.script_text.specs.declared.records.OutEntry.{OutEntry}
+use Rattle.gateway_run.specs.declared.records.OutEntry.{OutEntry}
 use Rattle.gateway_run.specs.declared.session.Act.TheVariants.{Accept, SendLogon}
 use Rattle.gateway_run.specs.declared.session.Logon.{Logon}
 use Rattle.gateway_run.specs.Session.{has_value, lacks, has_names, heart_of, seq_num_of, number_between, demand, demand_some, route, receive}

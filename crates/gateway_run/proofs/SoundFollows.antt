@@ -7,10 +7,10 @@ use Rattle.fix_frame.specs.Cut.{CutPiece, good, garbled}
 use Rattle.fix_fields.specs.Field.{Field}
 use Rattle.fix_fields.specs.Reading.{fields_of}
 use Rattle.fix_fields.specs.declared.error.FieldError.{FieldError}
-use Rattle.script_text.specs.declared.causes.Cause.{Cause}
+use Rattle.gateway_run.specs.declared.causes.Cause.{Cause}
 use Rattle.script_text.specs.declared.config.Names.{Names}
-use Rattle.script_text.specs.declared.journal.Entry.{Entry}
-use Rattle.script_text.specs.declared.records.OutEntry.{OutEntry}
+use Rattle.gateway_run.specs.declared.journal.Entry.{Entry}
+use Rattle.gateway_run.specs.declared.records.OutEntry.{OutEntry}
 use Rattle.gateway_run.specs.declared.session.Act.{Act}
 use Rattle.gateway_run.specs.declared.session.Act.TheVariants.{Accept, SendLogon}
 use Rattle.gateway_run.specs.declared.session.Logon.{Logon}

@@ -7,10 +7,10 @@ use Rattle.std.proofs.lemmas.List.{get_or_append_left}
 use Rattle.std.proofs.lemmas.Grind.{flat_map-append}
 use Rattle.fix_frame.specs.Frame.{frame_of}
 use Rattle.script_text.specs.declared.config.Names.{Names}
-use Rattle.script_text.specs.declared.journal.Entry.{Entry}
-use Rattle.script_text.specs.declared.journal.Entry.TheVariants.{Arrive, Admin, Bind, Leave}
-use Rattle.script_text.specs.declared.records.OutEntry.{OutEntry}
-use Rattle.script_text.specs.declared.records.SessionRecord.{SessionRecord}
+use Rattle.gateway_run.specs.declared.journal.Entry.{Entry}
+use Rattle.gateway_run.specs.declared.journal.Entry.TheVariants.{Arrive, Admin, Bind, Leave}
+use Rattle.gateway_run.specs.declared.records.OutEntry.{OutEntry}
+use Rattle.gateway_run.specs.declared.records.SessionRecord.{SessionRecord}
 use Rattle.gateway_run.specs.Headline.{Tally, no_tally, tally_after, tally_of, MayFollow, IsRun, IsRunFrom, Deed, accepted, sent, deeds_told}
 use Rattle.gateway_run.specs.Outbound.{wire_body_of, sent_until_leave, sent_on, no_entry, out_text}
 

@@ -2,10 +2,10 @@
 use Rattle.std.proofs.Common.{◌≡◌, ◌⊎◌, inl, inr, ℕ, Bool, true, false, List, [], ◌∷◌, refl, sym, ap, ◌∙◌, subst, append-nil}
 use Rattle.std.specs.Prelude.{Option, None, Some, if◌then◌else◌}
 use Rattle.std.specs.Option.{is_some}
-use Rattle.script_text.specs.declared.causes.Cause.{Cause}
+use Rattle.gateway_run.specs.declared.causes.Cause.{Cause}
 use Rattle.script_text.specs.declared.config.Names.{Names}
-use Rattle.script_text.specs.declared.journal.Entry.{Entry}
-use Rattle.script_text.specs.declared.journal.Entry.TheVariants.{Leave}
+use Rattle.gateway_run.specs.declared.journal.Entry.{Entry}
+use Rattle.gateway_run.specs.declared.journal.Entry.TheVariants.{Leave}
 use Rattle.gateway_run.specs.Handling.{SessionState, ConnectionState, record_of, leave, left}
 use Rattle.gateway_run.specs.Headline.{Tally, no_tally, tally_of, IsRun, Deed, deeds_told, Phase, unbound, bound, over}
 use Rattle.gateway_run.specs.Outbound.{out_text}

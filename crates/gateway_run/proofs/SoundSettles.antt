@@ -4,8 +4,8 @@ use Rattle.std.specs.Prelude.{Option, None, Some}
 use Rattle.std.specs.Option.{is_some}
 use Rattle.std.proofs.Math.Seq.{drop-append_seam}
 use Rattle.fix_frame.specs.Cut.{CutPiece, Cut, cut, behind}
-use Rattle.script_text.specs.declared.causes.Cause.{Cause}
-use Rattle.script_text.specs.declared.causes.Cause.TheVariants.{End, ReadFault}
+use Rattle.gateway_run.specs.declared.causes.Cause.{Cause}
+use Rattle.gateway_run.specs.declared.causes.Cause.TheVariants.{End, ReadFault}
 use Rattle.script_text.specs.declared.config.Names.{Names}
 use Rattle.gateway_run.specs.Handling.{SessionState, ConnectionState, World, world, ended, cause_after, handle_all, new_pieces, Seen, gave, input_ended, blocked, failed, read_on, leave, share_written, served}
 use Rattle.gateway_run.specs.Headline.{Deed, Phase, unbound, bound, over, deeds_of, garbled_of}

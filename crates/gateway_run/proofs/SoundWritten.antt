@@ -8,8 +8,8 @@ use Rattle.fix_frame.specs.Cut.{CutPiece, good, garbled}
 use Rattle.fix_fields.specs.Field.{Field}
 use Rattle.fix_fields.specs.Reading.{fields_of}
 use Rattle.fix_fields.specs.declared.error.FieldError.{FieldError}
-use Rattle.script_text.specs.declared.causes.Cause.{Cause}
-use Rattle.script_text.specs.declared.causes.Cause.TheVariants.{NotLogon}
+use Rattle.gateway_run.specs.declared.causes.Cause.{Cause}
+use Rattle.gateway_run.specs.declared.causes.Cause.TheVariants.{NotLogon}
 use Rattle.gateway_run.specs.declared.session.Act.{Act}
 use Rattle.gateway_run.specs.declared.session.Act.TheVariants.{Accept, SendLogon}
 use Rattle.gateway_run.specs.declared.session.Logon.{Logon}

@@ -6,7 +6,7 @@ use Rattle.fix_fields.specs.Field.{Field}
 use Rattle.fix_fields.specs.Reading.{fields_of}
 use Rattle.fix_fields.specs.Pairs.{is_paired}
 use Rattle.fix_fields.specs.declared.error.FieldError.{FieldError}
-use Rattle.script_text.specs.declared.causes.Cause.{Cause}
+use Rattle.gateway_run.specs.declared.causes.Cause.{Cause}
 use Rattle.script_text.specs.declared.config.Names.{Names}
 use Rattle.script_text.specs.declared.steps.Script.{Script}
 use Rattle.script_text.specs.declared.steps.Step.{Step}

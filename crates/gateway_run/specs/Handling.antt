@@ -6,14 +6,14 @@ use Rattle.fix_frame.specs.Cut.{CutPiece, good, garbled, cut}
 use Rattle.fix_fields.specs.Field.{Field, text_of}
 use Rattle.fix_fields.specs.Reading.{fields_of}
 use Rattle.fix_fields.specs.declared.error.FieldError.{FieldError}
-use Rattle.script_text.specs.declared.causes.Cause.{Cause}
-use Rattle.script_text.specs.declared.causes.Cause.TheVariants.{End, ReadFault, NotLogon, NoSuchSession}
-use Rattle.script_text.specs.declared.journal.Entry.{Entry}
-use Rattle.script_text.specs.declared.journal.Entry.TheVariants.{Arrive, Admin, Bind, Leave}
+use Rattle.gateway_run.specs.declared.causes.Cause.{Cause}
+use Rattle.gateway_run.specs.declared.causes.Cause.TheVariants.{End, ReadFault, NotLogon, NoSuchSession}
+use Rattle.gateway_run.specs.declared.journal.Entry.{Entry}
+use Rattle.gateway_run.specs.declared.journal.Entry.TheVariants.{Arrive, Admin, Bind, Leave}
 use Rattle.script_text.specs.declared.config.Names.{Names}
-use Rattle.script_text.specs.declared.journal.Holding.{Holding}
-use Rattle.script_text.specs.declared.records.OutEntry.{OutEntry}
-use Rattle.script_text.specs.declared.records.SessionRecord.{SessionRecord}
+use Rattle.gateway_run.specs.declared.journal.Holding.{Holding}
+use Rattle.gateway_run.specs.declared.records.OutEntry.{OutEntry}
+use Rattle.gateway_run.specs.declared.records.SessionRecord.{SessionRecord}
 use Rattle.gateway_run.specs.declared.session.Act.{Act}
 use Rattle.gateway_run.specs.declared.session.Act.TheVariants.{Accept, SendLogon}
 use Rattle.gateway_run.specs.declared.session.Logon.{Logon}

@@ -1,5 +1,7 @@
 pub mod Serving
 pub mod Words
+pub mod ReportLines
+pub mod Report
 pub mod Session
 pub mod Outbound
 pub mod Handling

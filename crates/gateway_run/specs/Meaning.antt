@@ -4,8 +4,8 @@ use Rattle.std.specs.Prelude.{ℕ, zero, suc, Bool, true, false, ◌||◌, List,
 use Rattle.std.specs.Option.{option_map, is_some}
 use Rattle.fix_frame.specs.Frame.{frame_of}
 use Rattle.script_text.specs.declared.config.Names.{Names}
-use Rattle.script_text.specs.declared.records.LibReport.{LibReport}
-use Rattle.script_text.specs.declared.records.RunRecord.{RunRecord}
+use Rattle.gateway_run.specs.declared.records.LibReport.{LibReport}
+use Rattle.gateway_run.specs.declared.records.RunRecord.{RunRecord}
 use Rattle.script_text.specs.declared.steps.Script.{Script}
 use Rattle.script_text.specs.declared.steps.Step.{Step}
 use Rattle.script_text.specs.declared.steps.Step.TheVariants.{At, Connect, Frame, Finish, Turn}

@@ -2,11 +2,11 @@
 use Rattle.std.specs.Prelude.{ℕ, ◌-◌, ◌==◌, List, [], ◌∷◌, ◌++◌, codes, decimal, slice_index_or, false, if◌then◌else◌}
 use Rattle.std.specs.List.{flat_map}
 use Rattle.fix_frame.specs.Frame.{frame_of}
-use Rattle.script_text.specs.ReportLines.{stamp_word}
-use Rattle.script_text.specs.declared.journal.Entry.{Entry}
-use Rattle.script_text.specs.declared.journal.Entry.TheVariants.{Admin, Bind, Leave}
+use Rattle.gateway_run.specs.ReportLines.{stamp_word}
+use Rattle.gateway_run.specs.declared.journal.Entry.{Entry}
+use Rattle.gateway_run.specs.declared.journal.Entry.TheVariants.{Admin, Bind, Leave}
 use Rattle.script_text.specs.declared.config.Names.{Names}
-use Rattle.script_text.specs.declared.records.OutEntry.{OutEntry}
+use Rattle.gateway_run.specs.declared.records.OutEntry.{OutEntry}
 
 -- a body up to the end of its first field, which is its type
 abbrev pub first_field : List ℕ → List ℕ

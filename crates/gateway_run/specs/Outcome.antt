@@ -4,7 +4,7 @@ use Rattle.gate_io.specs.Counts.{HasRisen}
 use Rattle.gate_io.specs.Sink.{HasTaken, HasTakenPrefix}
 use Rattle.script_text.specs.Meaning.{script_of}
 use Rattle.script_text.specs.declared.kinds.ScriptError.TheVariants.{Fault}
-use Rattle.script_text.specs.declared.records.RunRecord.{RunRecord}
+use Rattle.gateway_run.specs.declared.records.RunRecord.{RunRecord}
 use Rattle.script_text.specs.declared.steps.Script.{Script}
 use Rattle.gateway_run.specs.declared.statuses.Status.{Status}
 use Rattle.gateway_run.specs.declared.statuses.Status.TheVariants as status

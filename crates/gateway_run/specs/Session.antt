@@ -7,8 +7,8 @@ use Rattle.fix_fields.specs.Field.{Field}
 use Rattle.fix_fields.specs.Fit.{is_session_type}
 use Rattle.fix_fields.specs.Number.{number_of}
 use Rattle.fix_fields.specs.Reading.{first_value}
-use Rattle.script_text.specs.declared.causes.Cause.{Cause}
-use Rattle.script_text.specs.declared.causes.Cause.TheVariants.{NotLogon, NoSuchSession, BadLogon, NoNumber}
+use Rattle.gateway_run.specs.declared.causes.Cause.{Cause}
+use Rattle.gateway_run.specs.declared.causes.Cause.TheVariants.{NotLogon, NoSuchSession, BadLogon, NoNumber}
 use Rattle.script_text.specs.declared.config.Names.{Names}
 use Rattle.gateway_run.specs.declared.session.Act.{Act}
 use Rattle.gateway_run.specs.declared.session.Act.TheVariants.{Accept, SendLogon}

@@ -4,8 +4,8 @@ use Rattle.std.specs.Option.{is_some, option_map}
 use Rattle.gate_io.specs.declared.wires.WireGot.{WireGot}
 use Rattle.gate_io.specs.declared.wires.WireGot.TheVariants as got
 use Rattle.gate_io.specs.MemWire.{WireState, LinkState, state_at}
-use Rattle.script_text.specs.declared.records.ConnRecord.{ConnRecord}
-use Rattle.script_text.specs.declared.records.EngineRecord.{EngineRecord}
+use Rattle.gateway_run.specs.declared.records.ConnRecord.{ConnRecord}
+use Rattle.gateway_run.specs.declared.records.EngineRecord.{EngineRecord}
 use Rattle.gateway_run.specs.Handling.{SessionState, ConnectionState, World, world, new_connection, Seen, gave, input_ended, blocked, failed, served, record_of}
 
 -- the engine: the session that is configured, the connection that was accepted, and the last turn's moment

@@ -9,9 +9,10 @@ ghost use Rattle.gateway_run.specs.Runs.{IsRunning, run_of};
 ghost use Rattle.script_text.specs.Lawful.{AreNames, IsLawful};
 
 use crate::desk::Desk;
+use crate::records::{LibReport, RunRecord};
 use crate::run::Run;
 use gate_io::{Bytes, NoMemory, Rows};
-use script_text::{LibReport, Names, RunRecord, Script, Step};
+use script_text::{Names, Script, Step};
 use std::alloc::Global;
 
 /// What the run of a script leaves, each line of which is built.

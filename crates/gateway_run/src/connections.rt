@@ -9,9 +9,10 @@ ghost use Rattle.gateway_run.specs.Handling.{ConnectionState, new_connection, en
 ghost use Rattle.gateway_run.specs.Serving.{IsUnscripted};
 ghost use Rattle.gateway_run.specs.Turn.{input_in};
 
+use crate::causes::Cause;
+use crate::records::ConnRecord;
 use fix_frame::{Cutter, LONGEST_FRAME};
 use gate_io::{Bytes, MemWire, NoMemory, Wire, WireWrote};
-use script_text::{Cause, ConnRecord};
 use std::alloc::Global;
 use std::marker::Model;
 

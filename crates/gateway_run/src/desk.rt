@@ -4,12 +4,15 @@ ghost use Rattle.std.specs.Prelude.{◌≡◌, ◌≤◌, ◌+◌, ◌∷◌, []
 ghost use Rattle.gateway_run.specs.Handling.{SessionState, bound, left, accepted, counted, answered, logon_body, logon_text, record_of};
 ghost use Rattle.gateway_run.specs.Session.{route, log_on, receive};
 
+use crate::causes::Cause;
+use crate::journal::{Entry, Holding};
+use crate::records::{OutEntry, SessionRecord};
 use crate::session::{Act, Logon, Session, route};
 use crate::wire_text::wire_text;
 use fix_fields::{Builder, Fields, LONGEST_NAME};
 use gate_io::{Bytes, NoMemory, Rows};
 use itoa::Buffer;
-use script_text::{Cause, Entry, Holding, Names, OutEntry, SessionRecord};
+use script_text::Names;
 use std::alloc::Global;
 use std::marker::Model;
 

@@ -13,13 +13,14 @@ ghost use Rattle.fix_fields.specs.Reading.{fields_of};
 ghost use Rattle.gateway_run.specs.Session.{route};
 ghost use Rattle.gateway_run.specs.Serving.{IsCut, IsCutOn, IsUnscripted, Stands, IsServed, HasRoom, states_of};
 
+use crate::causes::Cause;
 use crate::connections::{ConnState, Connection, MOST_WRITTEN};
 use crate::desk::Desk;
+use crate::records::{ConnRecord, EngineRecord, SessionRecord};
 use crate::session::{Act, is_logon};
 use fix_fields::{FieldError, Fields};
 use fix_frame::Piece;
 use gate_io::{Accepted, Clock, LAST_MOMENT, MemWire, NoMemory, Rows, StepClock, Wire, WireGot};
-use script_text::{Cause, ConnRecord, EngineRecord, SessionRecord};
 use std::alloc::Global;
 
 /// The most bytes that are read from one connection in a turn.

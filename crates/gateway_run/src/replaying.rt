@@ -8,7 +8,7 @@ ghost use Rattle.script_text.specs.declared.kinds.ScriptKind.{ScriptKind};
 ghost use Rattle.script_text.specs.declared.steps.Script.{Script};
 ghost use Rattle.script_text.specs.Meaning.{script_of};
 ghost use Rattle.script_text.specs.Lawful.{IsLawful};
-ghost use Rattle.script_text.specs.Report.{report_of};
+ghost use Rattle.gateway_run.specs.Report.{report_of};
 ghost use Rattle.gateway_run.specs.Headline.{AreAdjoining, DeedsAreAsked, IsBoundWhileStanding, IsGarbledCount, IsRun, IsSound, TookOutText, names_of};
 ghost use Rattle.gateway_run.specs.Outcome.{IsBuiltScript, IsCarriedOut, IsUnbuiltAt, Leaves, Refuses, RefusesText, Reports, WritesNothing, no_run};
 ghost use Rattle.gateway_run.specs.Words.{HasCommand};
@@ -16,13 +16,12 @@ ghost use Rattle.gateway_run.specs.Words.{HasCommand};
 use crate::carrying::carry_out;
 use crate::form::unbuilt_line;
 use crate::laws::meanings_are_sound;
+use crate::records::{EngineRecord, RunRecord};
+use crate::report::report_text;
 use crate::statuses::Status;
 use crate::words::{WordsError, command_of};
 use gate_io::{NoMemory, ReadAll, Rows, Sink, Source, read_all, write_all};
-use script_text::{
-    EngineRecord, LONGEST_SCRIPT, RunRecord, Script, ScriptError, ScriptKind, read_script,
-    report_text,
-};
+use script_text::{LONGEST_SCRIPT, Script, ScriptError, ScriptKind, read_script};
 use std::alloc::Global;
 
 /// Carries out the script that the words name and writes the report of the run.

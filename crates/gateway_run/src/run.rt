@@ -9,9 +9,10 @@ ghost use Rattle.gateway_run.specs.Turn.{left_by};
 
 use crate::desk::Desk;
 use crate::engine::Engine;
+use crate::records::EngineRecord;
 use fix_frame::{FrameError, write_frame};
 use gate_io::{MemWire, NoMemory, StepClock};
-use script_text::{EngineRecord, Step};
+use script_text::Step;
 use std::alloc::Global;
 
 /// The room that each turn finds for written bytes.

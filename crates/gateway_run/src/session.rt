@@ -7,8 +7,9 @@ ghost use Rattle.fix_fields.specs.Fit.{is_session_type};
 ghost use Rattle.fix_fields.specs.Reading.{first_value};
 ghost use Rattle.gateway_run.specs.Session.{has_value, lacks, has_names, number_between, heart_of, seq_num_of, route, log_on, receive, expected_after};
 
+use crate::causes::Cause;
 use fix_fields::{Fields, is_session_type, read_number};
-use script_text::{Cause, Names};
+use script_text::Names;
 
 /// The greatest MsgSeqNum (34) that is read.
 pub const LAST_NUMBER: u32 = 999_999_999;

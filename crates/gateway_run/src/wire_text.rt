@@ -6,11 +6,12 @@ ghost use Rattle.std.specs.Prelude.{◌≡◌, ◌≤◌, ◌++◌, ◌∷◌, [
 ghost use Rattle.fix_frame.specs.Frame.{IsBody, frame_of};
 ghost use Rattle.gateway_run.specs.Outbound.{first_field, behind_first_field, wire_body_of};
 
+use crate::records::OutEntry;
 use fix_fields::{LONGEST_APPLICATION_BODY, LONGEST_NAME, stamp_text};
 use fix_frame::{FrameError, write_frame};
 use gate_io::{LAST_MOMENT, NoMemory};
 use itoa::Buffer;
-use script_text::{Names, OutEntry};
+use script_text::Names;
 use std::alloc::Global;
 
 /// SOH, which ends each field.
@@ -40,7 +41,7 @@ pub fn wire_text(
 
 /// The body of an outbound message as it is written: its type field, then sender, target, number
 /// and SendingTime, then the rest of the logged body.
-#[tactic(auto, unfolding(crate::specs::Outbound::wire_body_of, script_text::specs::ReportLines::stamp_word))]
+#[tactic(auto, unfolding(crate::specs::Outbound::wire_body_of, crate::specs::ReportLines::stamp_word))]
 fn wire_body(
     alloc: Global,
     number: u64,

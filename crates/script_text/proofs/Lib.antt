@@ -12,4 +12,3 @@ pub mod PartFacts
 pub mod PrintedTexts
 pub mod Texts
 pub mod WholeLines
-pub mod ByPlace

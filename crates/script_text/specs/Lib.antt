@@ -9,5 +9,3 @@ pub mod Meaning
 pub mod Lent
 pub mod Laws
 pub mod Lawful
-pub mod ReportLines
-pub mod Report

@@ -1,5 +1,5 @@
 use Rattle.std.proofs.Common.{refl}
-use Rattle.script_text.specs.ReportLines.{stamp_word}
+use Rattle.gateway_run.specs.ReportLines.{stamp_word}
 use Rattle.gateway_run.specs.Outbound.{wire_body_of}
 use Rattle.gateway_run.proofs.wire_text.wire_body.Goals as goal
 
