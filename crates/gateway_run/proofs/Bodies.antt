@@ -5,7 +5,7 @@ use Rattle.std.specs.Fmt.{digits}
 use Rattle.std.proofs.lemmas.Fmt.{length-decimal-le}
 use Rattle.std.proofs.lemmas.Bool.{eqb-true}
 use Rattle.fix_frame.specs.Frame.{IsBody, frame_of}
-use Rattle.script_text.specs.declared.config.Names.{Names}
+use Rattle.session_core.specs.declared.names.Names.{Names}
 use Rattle.gateway_run.specs.declared.records.OutEntry.{OutEntry}
 use Rattle.gateway_run.specs.ReportLines.{stamp_word}
 use Rattle.gateway_run.specs.Outbound.{first_field, behind_first_field, field, wire_body_of}

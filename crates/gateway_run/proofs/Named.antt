@@ -3,7 +3,7 @@ use Rattle.std.proofs.Common.{◌≤◌, length}
 use Rattle.std.proofs.lemmas.Bool.{and_parts, leb-true}
 use Rattle.script_text.specs.Lawful.{AreNames}
 use Rattle.script_text.specs.Words.{is_name}
-use Rattle.script_text.specs.declared.config.Names.{Names}
+use Rattle.session_core.specs.declared.names.Names.{Names}
 
 pub short_us : (names : Names) → AreNames names → length names.us ≤ 32
 unfolding is_name

@@ -10,7 +10,7 @@ use Rattle.fix_fields.specs.Reading.{fields_of, first_value}
 use Rattle.fix_fields.specs.declared.error.FieldError.{FieldError}
 use Rattle.gateway_run.specs.declared.causes.Cause.{Cause}
 use Rattle.gateway_run.specs.declared.causes.Cause.TheVariants.{NotLogon, NoSuchSession, BadLogon, NoNumber}
-use Rattle.script_text.specs.declared.config.Names.{Names}
+use Rattle.session_core.specs.declared.names.Names.{Names}
 use Rattle.gateway_run.specs.declared.records.OutEntry.{OutEntry}
 use Rattle.gateway_run.specs.declared.session.Act.TheVariants.{Accept, SendLogon}
 use Rattle.gateway_run.specs.declared.session.Logon.{Logon}

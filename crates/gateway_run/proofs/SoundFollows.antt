@@ -8,7 +8,7 @@ use Rattle.fix_fields.specs.Field.{Field}
 use Rattle.fix_fields.specs.Reading.{fields_of}
 use Rattle.fix_fields.specs.declared.error.FieldError.{FieldError}
 use Rattle.gateway_run.specs.declared.causes.Cause.{Cause}
-use Rattle.script_text.specs.declared.config.Names.{Names}
+use Rattle.session_core.specs.declared.names.Names.{Names}
 use Rattle.gateway_run.specs.declared.journal.Entry.{Entry}
 use Rattle.gateway_run.specs.declared.records.OutEntry.{OutEntry}
 use Rattle.gateway_run.specs.declared.session.Act.{Act}

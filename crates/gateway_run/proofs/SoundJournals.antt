@@ -6,7 +6,7 @@ use Rattle.std.proofs.Math.Seq.{get_or-append_seam}
 use Rattle.std.proofs.lemmas.List.{get_or_append_left}
 use Rattle.std.proofs.lemmas.Grind.{flat_map-append}
 use Rattle.fix_frame.specs.Frame.{frame_of}
-use Rattle.script_text.specs.declared.config.Names.{Names}
+use Rattle.session_core.specs.declared.names.Names.{Names}
 use Rattle.gateway_run.specs.declared.journal.Entry.{Entry}
 use Rattle.gateway_run.specs.declared.journal.Entry.TheVariants.{Arrive, Admin, Bind, Leave}
 use Rattle.gateway_run.specs.declared.records.OutEntry.{OutEntry}

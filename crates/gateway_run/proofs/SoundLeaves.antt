@@ -3,7 +3,7 @@ use Rattle.std.proofs.Common.{◌≡◌, ◌⊎◌, inl, inr, ℕ, Bool, true, f
 use Rattle.std.specs.Prelude.{Option, None, Some, if◌then◌else◌}
 use Rattle.std.specs.Option.{is_some}
 use Rattle.gateway_run.specs.declared.causes.Cause.{Cause}
-use Rattle.script_text.specs.declared.config.Names.{Names}
+use Rattle.session_core.specs.declared.names.Names.{Names}
 use Rattle.gateway_run.specs.declared.journal.Entry.{Entry}
 use Rattle.gateway_run.specs.declared.journal.Entry.TheVariants.{Leave}
 use Rattle.gateway_run.specs.Handling.{SessionState, ConnectionState, record_of, leave, left}

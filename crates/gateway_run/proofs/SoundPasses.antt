@@ -3,7 +3,7 @@ use Rattle.std.proofs.Common.{◌≡◌, ℕ, ◌+◌, Bool, List, [], ◌∷◌
 use Rattle.std.specs.Prelude.{Option, None, if◌then◌else◌}
 use Rattle.std.specs.Option.{is_some}
 use Rattle.fix_frame.specs.Cut.{CutPiece}
-use Rattle.script_text.specs.declared.config.Names.{Names}
+use Rattle.session_core.specs.declared.names.Names.{Names}
 use Rattle.gateway_run.specs.Handling.{World, handle_piece, handle_all, garbled_in}
 use Rattle.gateway_run.specs.Headline.{Deed, Phase, unbound, bound, over, piece_follows, deeds_of, garbled_of}
 use Rattle.gateway_run.proofs.Kept.{kept_behind}

@@ -2,7 +2,7 @@
 use Rattle.std.proofs.Common.{◌≡◌, ◌+◌, List, [], ◌∷◌, ◌++◌, refl, sym, ap, ◌∙◌, arith, append_assoc}
 use Rattle.std.specs.Prelude.{Option}
 use Rattle.fix_frame.specs.Cut.{CutPiece, good, garbled}
-use Rattle.script_text.specs.declared.config.Names.{Names}
+use Rattle.session_core.specs.declared.names.Names.{Names}
 use Rattle.gateway_run.specs.Headline.{Deed, Phase, unbound, bound, over, Follows, nothing, piece_follows, deeds_of, garbled_of}
 
 -- the phase behind pieces

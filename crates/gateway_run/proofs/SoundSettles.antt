@@ -6,7 +6,7 @@ use Rattle.std.proofs.Math.Seq.{drop-append_seam}
 use Rattle.fix_frame.specs.Cut.{CutPiece, Cut, cut, behind}
 use Rattle.gateway_run.specs.declared.causes.Cause.{Cause}
 use Rattle.gateway_run.specs.declared.causes.Cause.TheVariants.{End, ReadFault}
-use Rattle.script_text.specs.declared.config.Names.{Names}
+use Rattle.session_core.specs.declared.names.Names.{Names}
 use Rattle.gateway_run.specs.Handling.{SessionState, ConnectionState, World, world, ended, cause_after, handle_all, new_pieces, Seen, gave, input_ended, blocked, failed, read_on, leave, share_written, served}
 use Rattle.gateway_run.specs.Headline.{Deed, Phase, unbound, bound, over, deeds_of, garbled_of}
 use Rattle.gateway_run.proofs.SoundPhases.{phase_after, phase_append, deeds_append, garbled_append}

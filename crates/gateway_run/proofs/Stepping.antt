@@ -5,7 +5,7 @@ use Rattle.std.specs.Option.{is_some, option_map, IsSome}
 use Rattle.std.proofs.lemmas.Bool.{and_parts}
 use Rattle.script_text.specs.Lawful.{StepFits, StepsFit, IsLawful}
 use Rattle.script_text.specs.SoFar.{connects_with, moment_with}
-use Rattle.script_text.specs.declared.config.Names.{Names}
+use Rattle.session_core.specs.declared.names.Names.{Names}
 use Rattle.script_text.specs.declared.steps.Script.{Script}
 use Rattle.script_text.specs.declared.steps.Step.{Step}
 use Rattle.script_text.specs.declared.steps.Step.TheVariants.{At, Connect, Bytes, Frame, Finish, FailRead, FailWrite, Block, Unblock, Turn, Lib}

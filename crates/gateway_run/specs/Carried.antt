@@ -2,7 +2,7 @@
 use Rattle.std.specs.Prelude.{◌≡◌, ℕ, false, List, None}
 use Rattle.std.specs.Option.{is_some}
 use Rattle.script_text.specs.Lawful.{StepsFit}
-use Rattle.script_text.specs.declared.config.Names.{Names}
+use Rattle.session_core.specs.declared.names.Names.{Names}
 use Rattle.script_text.specs.declared.steps.Step.{Step}
 use Rattle.gateway_run.specs.Form.{Form, unbuilt_from}
 use Rattle.gateway_run.specs.Meaning.{RunState}

@@ -7,7 +7,7 @@ use Rattle.fix_fields.specs.Reading.{fields_of}
 use Rattle.fix_fields.specs.Pairs.{is_paired}
 use Rattle.fix_fields.specs.declared.error.FieldError.{FieldError}
 use Rattle.gateway_run.specs.declared.causes.Cause.{Cause}
-use Rattle.script_text.specs.declared.config.Names.{Names}
+use Rattle.session_core.specs.declared.names.Names.{Names}
 use Rattle.script_text.specs.declared.steps.Script.{Script}
 use Rattle.script_text.specs.declared.steps.Step.{Step}
 use Rattle.script_text.specs.declared.steps.Step.TheVariants.{At, Connect, Frame, Finish, Turn}

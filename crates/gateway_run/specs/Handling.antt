@@ -10,7 +10,7 @@ use Rattle.gateway_run.specs.declared.causes.Cause.{Cause}
 use Rattle.gateway_run.specs.declared.causes.Cause.TheVariants.{End, ReadFault, NotLogon, NoSuchSession}
 use Rattle.gateway_run.specs.declared.journal.Entry.{Entry}
 use Rattle.gateway_run.specs.declared.journal.Entry.TheVariants.{Arrive, Admin, Bind, Leave}
-use Rattle.script_text.specs.declared.config.Names.{Names}
+use Rattle.session_core.specs.declared.names.Names.{Names}
 use Rattle.gateway_run.specs.declared.journal.Holding.{Holding}
 use Rattle.gateway_run.specs.declared.records.OutEntry.{OutEntry}
 use Rattle.gateway_run.specs.declared.records.SessionRecord.{SessionRecord}

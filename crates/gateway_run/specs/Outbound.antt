@@ -5,7 +5,7 @@ use Rattle.fix_frame.specs.Frame.{frame_of}
 use Rattle.gateway_run.specs.ReportLines.{stamp_word}
 use Rattle.gateway_run.specs.declared.journal.Entry.{Entry}
 use Rattle.gateway_run.specs.declared.journal.Entry.TheVariants.{Admin, Bind, Leave}
-use Rattle.script_text.specs.declared.config.Names.{Names}
+use Rattle.session_core.specs.declared.names.Names.{Names}
 use Rattle.gateway_run.specs.declared.records.OutEntry.{OutEntry}
 
 -- a body up to the end of its first field, which is its type

@@ -9,7 +9,7 @@ use Rattle.fix_fields.specs.Number.{number_of}
 use Rattle.fix_fields.specs.Reading.{first_value}
 use Rattle.gateway_run.specs.declared.causes.Cause.{Cause}
 use Rattle.gateway_run.specs.declared.causes.Cause.TheVariants.{NotLogon, NoSuchSession, BadLogon, NoNumber}
-use Rattle.script_text.specs.declared.config.Names.{Names}
+use Rattle.session_core.specs.declared.names.Names.{Names}
 use Rattle.gateway_run.specs.declared.session.Act.{Act}
 use Rattle.gateway_run.specs.declared.session.Act.TheVariants.{Accept, SendLogon}
 use Rattle.gateway_run.specs.declared.session.Logon.{Logon}

@@ -4,7 +4,7 @@ use Rattle.std.proofs.lemmas.Bool.Decides.{nat_tests}
 use Rattle.script_text.specs.Grammar.{line_of}
 use Rattle.script_text.specs.Laws.{IsFirstFault, IsRead, said_by, said_on}
 use Rattle.script_text.specs.Meaning.{lines_of, read_on, script_from, script_of}
-use Rattle.script_text.specs.SoFar.{SoFar, no_lines, said_with}
+use Rattle.script_text.specs.SoFar.{SoFar, no_lines, said_with, script_said}
 use Rattle.script_text.specs.declared.kinds.ScriptError.{ScriptError}
 use Rattle.script_text.specs.declared.kinds.ScriptError.TheVariants.{Fault}
 use Rattle.script_text.specs.declared.kinds.ScriptKind.{ScriptKind}
@@ -24,12 +24,12 @@ said-cons serving n said text texts = refl
 abbrev Rest : Type 0
 Rest = Line → Result Script ScriptError
 
-from-said : (serving : Bool) (n : ℕ) (said : SoFar) (texts : List (List ℕ)) (last : SoFar) → said_by serving n said texts ≡ Some last → script_from serving n said texts ≡ Ok last.script
+from-said : (serving : Bool) (n : ℕ) (said : SoFar) (texts : List (List ℕ)) (last : SoFar) → said_by serving n said texts ≡ Some last → script_from serving n said texts ≡ Ok (script_said serving last)
 from-said serving n said [] last e =
-    let same : said ≡ last = cc (said-nil serving n said) in from-nil serving n said ∙ ap (λ (s : SoFar). Ok s.script) same
+    let same : said ≡ last = cc (said-nil serving n said) in from-nil serving n said ∙ ap (λ (s : SoFar). Ok (script_said serving s)) same
 from-said serving n said (text ∷ texts) last e =
     from-cons serving n said text texts
-    ∙ (elim (line_of serving said text) as (λ v. said_on (λ line. said_by serving (suc n) (said_with n line said) texts) v ≡ Some last → read_on n (λ line. script_from serving (suc n) (said_with n line said) texts) v ≡ Ok last.script) [
+    ∙ (elim (line_of serving said text) as (λ v. said_on (λ line. said_by serving (suc n) (said_with n line said) texts) v ≡ Some last → read_on n (λ line. script_from serving (suc n) (said_with n line said) texts) v ≡ Ok (script_said serving last)) [
       | Ok line ↦ λ s. from-said serving (suc n) (said_with n line said) texts last s
       | Err kind ↦ λ s. cc
     ] (sym (said-cons serving n said text texts) ∙ e))
@@ -38,7 +38,7 @@ from-said serving n said (text ∷ texts) last e =
 pub record Said (serving : Bool) (n : ℕ) (said : SoFar) (texts : List (List ℕ)) (script : Script) : Type 0 where
   pub last : SoFar
   pub lines : said_by serving n said texts ≡ Some last
-  pub whole : last.script ≡ script
+  pub whole : script_said serving last ≡ script
 
 said-from : (serving : Bool) (n : ℕ) (said : SoFar) (texts : List (List ℕ)) (script : Script) → script_from serving n said texts ≡ Ok script → Said serving n said texts script
 said-from serving n said [] script e =

@@ -1,17 +1,18 @@
 -- Each script that is read is lawful.
-use Rattle.std.proofs.Common.{◌≡◌, ◌≢◌, ℕ, suc, ◌<◌, Bool, true, false, not, List, [], ◌∷◌, ◌++◌, length, Ok, Err, All, refl, sym, ap, ◌∙◌, arith, subst, append_assoc, append-nil}
+use Rattle.std.proofs.Common.{◌≡◌, ℕ, suc, ◌+◌, ◌<◌, ◌≤◌, Bool, true, false, not, List, [], ◌∷◌, ◌++◌, length, Ok, Err, All, IsTrue, refl, sym, ap, ◌∙◌, arith, subst, append_assoc, append-nil}
 use Rattle.std.proofs.lemmas.List.{length_push}
 use Rattle.std.proofs.lemmas.List.Elements.{All-nil, All-push}
 use Rattle.std.proofs.lemmas.List.Quantifiers.{all_pairs_push}
 use Rattle.std.specs.List.{AllPairs}
 use Rattle.std.specs.Prelude.{nat_lt, if◌then◌else◌}
+use Rattle.engine_config.specs.declared.config.Config.{Config}
 use Rattle.fix_fields.specs.Laws.{MomentsHaveABound}
+use Rattle.gate_io.specs.declared.wires.TheConstants.{MOST_CONNECTIONS}
+use Rattle.session_core.specs.declared.names.Names.{Names}
 use Rattle.script_text.specs.Grammar.{line_of}
-use Rattle.script_text.specs.Lawful.{AreNames, IsLawful, IsLawfulConfig, StepFits, StepsFit, line_numbers}
+use Rattle.script_text.specs.Lawful.{IsLawful, StepFits, StepsFit, connects_in, line_numbers}
 use Rattle.script_text.specs.Meaning.{lines_of, read_on, script_from, script_of}
-use Rattle.script_text.specs.SoFar.{SoFar, config_with, connects_with, moment_with, no_config, no_lines, said_with, setting_with, step_with}
-use Rattle.script_text.specs.declared.config.Config.{Config}
-use Rattle.script_text.specs.declared.config.Names.{Names}
+use Rattle.script_text.specs.SoFar.{SoFar, config_with, connects_with, moment_with, no_lines, replay_with, said_with, script_said, setting_with, step_with}
 use Rattle.script_text.specs.declared.kinds.ScriptError.TheVariants.{Fault}
 use Rattle.script_text.specs.declared.kinds.ScriptKind.TheVariants.{TooLong}
 use Rattle.script_text.specs.declared.lines.Line.{Line}
@@ -20,168 +21,10 @@ use Rattle.script_text.specs.declared.lines.Setting.{Setting}
 use Rattle.script_text.specs.declared.lines.Setting.TheVariants as setting
 use Rattle.script_text.specs.declared.steps.Script.{Script}
 use Rattle.script_text.specs.declared.steps.Step.{Step}
+use Rattle.script_text.specs.declared.steps.Step.TheVariants as step
+use Rattle.script_text.proofs.LawfulConfigs.{ConfigSoFar, config_with-so_far, no_config-so_far, replay_with-so_far, so_far-lawful}
 use Rattle.script_text.proofs.LineFacts.{LineFits, SettingFits, line_of-fits}
 use Rattle.script_text.proofs.Meanings.{from-cons, from-nil}
-
--- ---- the configuration
-
-lawful-no_config : (serving : Bool) → IsLawfulConfig serving no_config
-lawful-no_config serving =
-    record {
-      few = omega arith;
-      named = All-nil AreNames;
-      distinct = λ i j d h within. absurd (omega arith);
-      libraries = omega arith;
-      connections = omega arith;
-      replaying = λ _. refl;
-      lane = (omega arith, omega arith);
-      leases = (omega arith, omega arith);
-      sends = (omega arith, omega arith);
-      asks = (omega arith, omega arith);
-      timeout = (omega arith, omega arith);
-      hold = (omega arith, omega arith);
-    }
-
-not-true : (b : Bool) → b ≡ true → not b ≡ true → ⊥
-not-true true h k = cc
-not-true false h k = cc
-
-lawful-configured : (serving : Bool) (config : Config) (what : Setting) → IsLawfulConfig serving config → SettingFits serving config.names what → IsLawfulConfig serving (config_with what config)
-lawful-configured serving config (setting.Session names) h fits =
-    record {
-      few = omega (arith, fits.0, length_push config.names names);
-      named = All-push AreNames config.names names h.named fits.1;
-      distinct = all_pairs_push (λ (a b : Names). a ≢ b) config.names names h.distinct fits.2;
-      libraries = h.libraries;
-      connections = h.connections;
-      replaying = h.replaying;
-      lane = h.lane;
-      leases = h.leases;
-      sends = h.sends;
-      asks = h.asks;
-      timeout = h.timeout;
-      hold = h.hold;
-    }
-lawful-configured serving config (setting.Libraries n) h fits =
-    record {
-      few = h.few;
-      named = h.named;
-      distinct = h.distinct;
-      libraries = fits;
-      connections = h.connections;
-      replaying = h.replaying;
-      lane = h.lane;
-      leases = h.leases;
-      sends = h.sends;
-      asks = h.asks;
-      timeout = h.timeout;
-      hold = h.hold;
-    }
-lawful-configured serving config (setting.Connections n) h fits =
-    record {
-      few = h.few;
-      named = h.named;
-      distinct = h.distinct;
-      libraries = h.libraries;
-      connections = fits.1;
-      replaying = λ replays. absurd (not-true serving fits.0 replays);
-      lane = h.lane;
-      leases = h.leases;
-      sends = h.sends;
-      asks = h.asks;
-      timeout = h.timeout;
-      hold = h.hold;
-    }
-lawful-configured serving config (setting.Lane n) h fits =
-    record {
-      few = h.few;
-      named = h.named;
-      distinct = h.distinct;
-      libraries = h.libraries;
-      connections = h.connections;
-      replaying = h.replaying;
-      lane = fits;
-      leases = h.leases;
-      sends = h.sends;
-      asks = h.asks;
-      timeout = h.timeout;
-      hold = h.hold;
-    }
-lawful-configured serving config (setting.Leases n) h fits =
-    record {
-      few = h.few;
-      named = h.named;
-      distinct = h.distinct;
-      libraries = h.libraries;
-      connections = h.connections;
-      replaying = h.replaying;
-      lane = h.lane;
-      leases = fits;
-      sends = h.sends;
-      asks = h.asks;
-      timeout = h.timeout;
-      hold = h.hold;
-    }
-lawful-configured serving config (setting.Sends n) h fits =
-    record {
-      few = h.few;
-      named = h.named;
-      distinct = h.distinct;
-      libraries = h.libraries;
-      connections = h.connections;
-      replaying = h.replaying;
-      lane = h.lane;
-      leases = h.leases;
-      sends = fits;
-      asks = h.asks;
-      timeout = h.timeout;
-      hold = h.hold;
-    }
-lawful-configured serving config (setting.Asks n) h fits =
-    record {
-      few = h.few;
-      named = h.named;
-      distinct = h.distinct;
-      libraries = h.libraries;
-      connections = h.connections;
-      replaying = h.replaying;
-      lane = h.lane;
-      leases = h.leases;
-      sends = h.sends;
-      asks = fits;
-      timeout = h.timeout;
-      hold = h.hold;
-    }
-lawful-configured serving config (setting.Timeout n) h fits =
-    record {
-      few = h.few;
-      named = h.named;
-      distinct = h.distinct;
-      libraries = h.libraries;
-      connections = h.connections;
-      replaying = h.replaying;
-      lane = h.lane;
-      leases = h.leases;
-      sends = h.sends;
-      asks = h.asks;
-      timeout = fits;
-      hold = h.hold;
-    }
-lawful-configured serving config (setting.Hold n) h fits =
-    record {
-      few = h.few;
-      named = h.named;
-      distinct = h.distinct;
-      libraries = h.libraries;
-      connections = h.connections;
-      replaying = h.replaying;
-      lane = h.lane;
-      leases = h.leases;
-      sends = h.sends;
-      asks = h.asks;
-      timeout = h.timeout;
-      hold = fits;
-    }
 
 -- ---- the steps
 
@@ -211,26 +54,59 @@ fit-none : (serving : Bool) (libraries connects present : ℕ) (steps : List Ste
 fit-none serving libraries connects present [] none = tt
 fit-none serving libraries connects present (first ∷ rest) none = absurd (omega arith)
 
+-- the connections behind steps are those before them and one for each `connect`
+connects_behind-count : (count : ℕ) (steps : List Step) → connects_behind count steps ≡ count + connects_in steps
+connects_behind-count count [] = omega arith
+connects_behind-count count (step.At now ∷ rest) = connects_behind-count count rest
+connects_behind-count count (step.Connect ∷ rest) = omega (arith, connects_behind-count (count + 1) rest)
+connects_behind-count count (step.Bytes c bytes ∷ rest) = connects_behind-count count rest
+connects_behind-count count (step.Frame c body ∷ rest) = connects_behind-count count rest
+connects_behind-count count (step.Finish c ∷ rest) = connects_behind-count count rest
+connects_behind-count count (step.FailRead c ∷ rest) = connects_behind-count count rest
+connects_behind-count count (step.FailWrite c after ∷ rest) = connects_behind-count count rest
+connects_behind-count count (step.Block c after ∷ rest) = connects_behind-count count rest
+connects_behind-count count (step.Unblock c ∷ rest) = connects_behind-count count rest
+connects_behind-count count (step.Turn ∷ rest) = connects_behind-count count rest
+connects_behind-count count (step.Lib library what ∷ rest) = connects_behind-count count rest
+
+-- a step that fits leaves no more connections than there may be
+few-step : (serving : Bool) (libraries connects present : ℕ) (what : Step) → connects ≤ MOST_CONNECTIONS → StepFits serving libraries connects present what → connects_with what connects ≤ MOST_CONNECTIONS
+few-step serving libraries connects present (step.At now) few fits = few
+few-step serving libraries connects present step.Connect few fits = let below : connects < MOST_CONNECTIONS = fits.1 in omega arith
+few-step serving libraries connects present (step.Bytes c bytes) few fits = few
+few-step serving libraries connects present (step.Frame c body) few fits = few
+few-step serving libraries connects present (step.Finish c) few fits = few
+few-step serving libraries connects present (step.FailRead c) few fits = few
+few-step serving libraries connects present (step.FailWrite c after) few fits = few
+few-step serving libraries connects present (step.Block c after) few fits = few
+few-step serving libraries connects present (step.Unblock c) few fits = few
+few-step serving libraries connects present step.Turn few fits = few
+few-step serving libraries connects present (step.Lib library what) few fits = few
+
 -- ---- the lines so far
 
--- the script before line n is lawful, and what is kept beside it is that of its steps
+-- what holds of the lines before line n, and what is kept beside the script is that of its steps
 pub record Kept (serving : Bool) (n : ℕ) (said : SoFar) : Type 0 where
-  pub lawful : IsLawful serving said.script
+  pub config : ConfigSoFar said.script.config
+  pub steps : StepsFit serving said.script.config.libraries 0 0 said.script.steps
+  pub session_lines : length said.script.session_lines ≡ length said.script.config.names
+  pub step_lines : length said.script.step_lines ≡ length said.script.steps
+  pub in_order : AllPairs (λ (a b : ℕ). a < b) (line_numbers said.script)
   pub connects : said.connects ≡ connects_behind 0 said.script.steps
+  pub few : said.connects ≤ MOST_CONNECTIONS
   pub moment : said.moment ≡ moment_behind 0 said.script.steps
   pub below : All (λ m. m < n) (line_numbers said.script)
 
 kept_start : (serving : Bool) → Kept serving 1 no_lines
 kept_start serving =
     record {
-      lawful = record {
-        config = lawful-no_config serving;
-        steps = tt;
-        session_lines = refl;
-        step_lines = refl;
-        in_order = λ i j d h within. absurd (omega arith);
-      };
+      config = no_config-so_far;
+      steps = tt;
+      session_lines = refl;
+      step_lines = refl;
+      in_order = λ i j d h within. absurd (omega arith);
       connects = refl;
+      few = omega arith;
       moment = refl;
       below = All-nil (λ m. m < 1);
     }
@@ -257,33 +133,31 @@ numbers-session sessions steps n none =
 
 kept_session : (serving : Bool) (n : ℕ) (said : SoFar) (names : Names) → Kept serving n said → length said.script.steps ≡ 0 → SettingFits serving said.script.config.names (setting.Session names) → Kept serving (suc n) (setting_with n (setting.Session names) said)
 kept_session serving n said names kept none fits =
-    let no_numbers : length said.script.step_lines ≡ 0 = omega (arith, kept.lawful.step_lines) in
+    let no_numbers : length said.script.step_lines ≡ 0 = omega (arith, kept.step_lines) in
     let numbers = numbers-session said.script.session_lines said.script.step_lines n no_numbers in
     record {
-      lawful = record {
-        config = lawful-configured serving said.script.config (setting.Session names) kept.lawful.config fits;
-        steps = fit-none serving _ 0 0 said.script.steps none;
-        session_lines = omega (arith, kept.lawful.session_lines, length_push said.script.session_lines n, length_push said.script.config.names names);
-        step_lines = kept.lawful.step_lines;
-        in_order = subst (AllPairs (λ (a b : ℕ). a < b)) (sym numbers) (more-in_order n _ kept.below kept.lawful.in_order);
-      };
+      config = config_with-so_far serving said.script.config (setting.Session names) kept.config fits;
+      steps = fit-none serving _ 0 0 said.script.steps none;
+      session_lines = omega (arith, kept.session_lines, length_push said.script.session_lines n, length_push said.script.config.names names);
+      step_lines = kept.step_lines;
+      in_order = subst (AllPairs (λ (a b : ℕ). a < b)) (sym numbers) (more-in_order n _ kept.below kept.in_order);
       connects = kept.connects;
+      few = kept.few;
       moment = kept.moment;
       below = subst (All (λ m. m < suc n)) (sym numbers) (more-below n _ kept.below);
     }
 
 -- another configuration with the same sessions, where no step stands
-kept_config : (serving : Bool) (n : ℕ) (said : SoFar) (config : Config) → Kept serving n said → length said.script.steps ≡ 0 → IsLawfulConfig serving config → length said.script.config.names ≡ length config.names → Kept serving (suc n) (record said { script = record said.script { config = config } })
-kept_config serving n said config kept none lawful same =
+kept_config : (serving : Bool) (n : ℕ) (said : SoFar) (config : Config) → Kept serving n said → length said.script.steps ≡ 0 → ConfigSoFar config → length said.script.config.names ≡ length config.names → Kept serving (suc n) (record said { script = record said.script { config = config } })
+kept_config serving n said config kept none so_far same =
     record {
-      lawful = record {
-        config = lawful;
-        steps = fit-none serving _ 0 0 said.script.steps none;
-        session_lines = kept.lawful.session_lines ∙ same;
-        step_lines = kept.lawful.step_lines;
-        in_order = kept.lawful.in_order;
-      };
+      config = so_far;
+      steps = fit-none serving _ 0 0 said.script.steps none;
+      session_lines = kept.session_lines ∙ same;
+      step_lines = kept.step_lines;
+      in_order = kept.in_order;
       connects = kept.connects;
+      few = kept.few;
       moment = kept.moment;
       below = later-below n _ kept.below;
     }
@@ -291,21 +165,21 @@ kept_config serving n said config kept none lawful same =
 kept_setting : (serving : Bool) (n : ℕ) (said : SoFar) (what : Setting) → Kept serving n said → length said.script.steps ≡ 0 → SettingFits serving said.script.config.names what → Kept serving (suc n) (setting_with n what said)
 kept_setting serving n said (setting.Session names) kept none fits = kept_session serving n said names kept none fits
 kept_setting serving n said (setting.Libraries x) kept none fits =
-    kept_config serving n said _ kept none (lawful-configured serving said.script.config (setting.Libraries x) kept.lawful.config fits) refl
+    kept_config serving n said _ kept none (config_with-so_far serving said.script.config (setting.Libraries x) kept.config fits) refl
 kept_setting serving n said (setting.Connections x) kept none fits =
-    kept_config serving n said _ kept none (lawful-configured serving said.script.config (setting.Connections x) kept.lawful.config fits) refl
+    kept_config serving n said _ kept none (config_with-so_far serving said.script.config (setting.Connections x) kept.config fits) refl
 kept_setting serving n said (setting.Lane x) kept none fits =
-    kept_config serving n said _ kept none (lawful-configured serving said.script.config (setting.Lane x) kept.lawful.config fits) refl
+    kept_config serving n said _ kept none (config_with-so_far serving said.script.config (setting.Lane x) kept.config fits) refl
 kept_setting serving n said (setting.Leases x) kept none fits =
-    kept_config serving n said _ kept none (lawful-configured serving said.script.config (setting.Leases x) kept.lawful.config fits) refl
+    kept_config serving n said _ kept none (config_with-so_far serving said.script.config (setting.Leases x) kept.config fits) refl
 kept_setting serving n said (setting.Sends x) kept none fits =
-    kept_config serving n said _ kept none (lawful-configured serving said.script.config (setting.Sends x) kept.lawful.config fits) refl
+    kept_config serving n said _ kept none (config_with-so_far serving said.script.config (setting.Sends x) kept.config fits) refl
 kept_setting serving n said (setting.Asks x) kept none fits =
-    kept_config serving n said _ kept none (lawful-configured serving said.script.config (setting.Asks x) kept.lawful.config fits) refl
+    kept_config serving n said _ kept none (config_with-so_far serving said.script.config (setting.Asks x) kept.config fits) refl
 kept_setting serving n said (setting.Timeout x) kept none fits =
-    kept_config serving n said _ kept none (lawful-configured serving said.script.config (setting.Timeout x) kept.lawful.config fits) refl
+    kept_config serving n said _ kept none (config_with-so_far serving said.script.config (setting.Timeout x) kept.config fits) refl
 kept_setting serving n said (setting.Hold x) kept none fits =
-    kept_config serving n said _ kept none (lawful-configured serving said.script.config (setting.Hold x) kept.lawful.config fits) refl
+    kept_config serving n said _ kept none (config_with-so_far serving said.script.config (setting.Hold x) kept.config fits) refl
 
 kept_step : (serving : Bool) (n : ℕ) (said : SoFar) (what : Step) → Kept serving n said → StepFits serving said.script.config.libraries said.connects said.moment what → Kept serving (suc n) (step_with n what said)
 kept_step serving n said what kept fits =
@@ -313,14 +187,13 @@ kept_step serving n said what kept fits =
     let numbers : script.session_lines ++ (script.step_lines ++ n ∷ []) ≡ (script.session_lines ++ script.step_lines) ++ n ∷ [] = sym (append_assoc script.session_lines script.step_lines (n ∷ [])) in
     let behind = subst (λ m. StepFits serving script.config.libraries (connects_behind 0 script.steps) m what) kept.moment (subst (λ c. StepFits serving script.config.libraries c said.moment what) kept.connects fits) in
     record {
-      lawful = record {
-        config = kept.lawful.config;
-        steps = fit-push serving script.config.libraries 0 0 script.steps what kept.lawful.steps behind;
-        session_lines = kept.lawful.session_lines;
-        step_lines = omega (arith, kept.lawful.step_lines, length_push script.step_lines n, length_push script.steps what);
-        in_order = subst (AllPairs (λ (a b : ℕ). a < b)) (sym numbers) (more-in_order n _ kept.below kept.lawful.in_order);
-      };
+      config = kept.config;
+      steps = fit-push serving script.config.libraries 0 0 script.steps what kept.steps behind;
+      session_lines = kept.session_lines;
+      step_lines = omega (arith, kept.step_lines, length_push script.step_lines n, length_push script.steps what);
+      in_order = subst (AllPairs (λ (a b : ℕ). a < b)) (sym numbers) (more-in_order n _ kept.below kept.in_order);
       connects = ap (connects_with what) kept.connects ∙ sym (connects_behind-push 0 script.steps what);
+      few = few-step serving script.config.libraries said.connects said.moment what kept.few fits;
       moment = ap (moment_with what) kept.moment ∙ sym (moment_behind-push 0 script.steps what);
       below = subst (All (λ m. m < suc n)) (sym numbers) (more-below n _ kept.below);
     }
@@ -328,15 +201,46 @@ kept_step serving n said what kept fits =
 kept_line : (serving : Bool) (n : ℕ) (said : SoFar) (what : Line) → Kept serving n said → LineFits serving said what → Kept serving (suc n) (said_with n what said)
 unfolding said_with
 kept_line serving n said line.Blank kept fits =
-    record { lawful = kept.lawful; connects = kept.connects; moment = kept.moment; below = later-below n _ kept.below }
+    record {
+      config = kept.config;
+      steps = kept.steps;
+      session_lines = kept.session_lines;
+      step_lines = kept.step_lines;
+      in_order = kept.in_order;
+      connects = kept.connects;
+      few = kept.few;
+      moment = kept.moment;
+      below = later-below n _ kept.below;
+    }
 kept_line serving n said (line.Config what) kept fits = kept_setting serving n said what kept fits.0 fits.1
 kept_line serving n said (line.Step what) kept fits = kept_step serving n said what kept fits
 
 -- ---- whole scripts
 
+lawful-said : (serving : Bool) (n : ℕ) (said : SoFar) → Kept serving n said → IsLawful serving (script_said serving said)
+lawful-said true n said kept =
+    record {
+      config = so_far-lawful said.script.config kept.config;
+      replays = λ replays. absurd (cc);
+      steps = kept.steps;
+      session_lines = kept.session_lines;
+      step_lines = kept.step_lines;
+      in_order = kept.in_order;
+    }
+lawful-said false n said kept =
+    record {
+      config = so_far-lawful _ (replay_with-so_far said.connects said.script.config kept.few kept.config);
+      replays = λ _. record { connections = kept.connects ∙ connects_behind-count 0 said.script.steps ∙ omega arith; dials = refl };
+      steps = kept.steps;
+      session_lines = kept.session_lines;
+      step_lines = kept.step_lines;
+      in_order = kept.in_order;
+    }
+
 lawful-from : MomentsHaveABound → (serving : Bool) (n : ℕ) (said : SoFar) (texts : List (List ℕ)) (script : Script) → Kept serving n said → script_from serving n said texts ≡ Ok script → IsLawful serving script
 lawful-from bound serving n said [] script kept e =
-    let same : said.script ≡ script = cc (from-nil serving n said) in subst (IsLawful serving) same kept.lawful
+    let same : script_said serving said ≡ script = cc (from-nil serving n said) in
+    subst (IsLawful serving) same (lawful-said serving n said kept)
 lawful-from bound serving n said (text ∷ texts) script kept e =
     elim (line_of serving said text) as (λ v. line_of serving said text ≡ v → read_on n (λ line. script_from serving (suc n) (said_with n line said) texts) v ≡ Ok script → IsLawful serving script) [
       | Ok what ↦ λ read s. lawful-from bound serving (suc n) (said_with n what said) texts script (kept_line serving n said what kept (line_of-fits bound serving said text what read)) s

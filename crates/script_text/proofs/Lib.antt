@@ -2,6 +2,7 @@
 pub mod Bodies
 pub mod Cuts
 pub mod FirstFaults
+pub mod LawfulConfigs
 pub mod LawfulScripts
 pub mod LentNames
 pub mod LineCuts

@@ -3,7 +3,13 @@ use Rattle.std.proofs.Common.{◌≡◌, ◌≢◌, ℕ, ◌<◌, ◌≤◌, Boo
 use Rattle.std.proofs.lemmas.Bool.Decides.{nat_tests}
 use Rattle.std.specs.List.{list_all, list_any}
 use Rattle.fix_fields.specs.Laws.{MomentsHaveABound}
+use Rattle.engine_config.specs.declared.config.TheConstants.{MOST_HOLD, MOST_TIMEOUT}
 use Rattle.gate_io.specs.declared.clocks.TheConstants.{LAST_MOMENT}
+use Rattle.gate_io.specs.declared.wires.TheConstants.{MOST_CONNECTIONS}
+use Rattle.lease_core.specs.declared.limits.TheConstants.{MOST_LEASES, MOST_LIBRARIES}
+use Rattle.lease_words.specs.declared.layout.TheConstants.{LANE_SLOTS}
+use Rattle.session_core.specs.declared.routing.TheConstants.{MOST_SESSIONS}
+use Rattle.script_text.specs.declared.limits.TheConstants.{MOST_COUNT}
 use Rattle.script_text.specs.Args.{body_at, ends, keyword_at, later, moment_at, name_at, number_at, number_below, number_within, text_at}
 use Rattle.script_text.specs.Grammar.{act_line, act_named, act_worded, bytes_line, config_line, connect_line, connection_and_number_line, connection_line, event_line, frame_line, hand_line, is_here, is_skipped, lib_line, limit_line, limit_named, limit_worded, line_of, moment_line, names_line, new_names, no_steps, opened_line, option_line, read_line, release_line, request_line, same_names, send_line, session_line}
 use Rattle.script_text.specs.Kinds.{◌>>=◌, both, demand}
@@ -11,7 +17,7 @@ use Rattle.script_text.specs.Lawful.{ActFits, AreNames, StepFits}
 use Rattle.script_text.specs.Printed.{is_printable}
 use Rattle.script_text.specs.SoFar.{SoFar}
 use Rattle.script_text.specs.Words.{behind_word, lib_word_of, limit_word_of, opening_of, word_in}
-use Rattle.script_text.specs.declared.config.Names.{Names}
+use Rattle.session_core.specs.declared.names.Names.{Names}
 use Rattle.script_text.specs.declared.kinds.ScriptKind.TheVariants.{BadByte, Backward, Misplaced, OutOfRange}
 use Rattle.script_text.specs.declared.lines.ConfigWord.{ConfigWord}
 use Rattle.script_text.specs.declared.lines.ConfigWord.TheVariants as config_word
@@ -41,15 +47,15 @@ Args = Option (List ℕ)
 -- a setting in its range
 abbrev pub SettingFits : Bool → List Names → Setting → Type 0
 SettingFits serving before (setting.Session names) =
-    (length before < 64) × AreNames names × All (λ other. other ≢ names) before
-SettingFits serving before (setting.Libraries n) = n ≤ 16
-SettingFits serving before (setting.Connections n) = IsTrue serving × (n ≤ 1_024)
-SettingFits serving before (setting.Lane n) = (1 ≤ n) × (n ≤ 16)
-SettingFits serving before (setting.Leases n) = (1 ≤ n) × (n ≤ 16_777_215)
-SettingFits serving before (setting.Sends n) = (1 ≤ n) × (n ≤ 4_294_967_295)
-SettingFits serving before (setting.Asks n) = (1 ≤ n) × (n ≤ 4_294_967_295)
-SettingFits serving before (setting.Timeout n) = (1 ≤ n) × (n ≤ 3_600_000)
-SettingFits serving before (setting.Hold n) = (1 ≤ n) × (n ≤ 3_600_000)
+    (length before < MOST_SESSIONS) × AreNames names × All (λ other. other ≢ names) before
+SettingFits serving before (setting.Libraries n) = n ≤ MOST_LIBRARIES
+SettingFits serving before (setting.Connections n) = IsTrue serving × (n ≤ MOST_CONNECTIONS)
+SettingFits serving before (setting.Lane n) = (1 ≤ n) × (n ≤ LANE_SLOTS)
+SettingFits serving before (setting.Leases n) = (1 ≤ n) × (n ≤ MOST_LEASES)
+SettingFits serving before (setting.Sends n) = (1 ≤ n) × (n ≤ MOST_COUNT)
+SettingFits serving before (setting.Asks n) = (1 ≤ n) × (n ≤ MOST_COUNT)
+SettingFits serving before (setting.Timeout n) = (1 ≤ n) × (n ≤ MOST_TIMEOUT)
+SettingFits serving before (setting.Hold n) = (1 ≤ n) × (n ≤ MOST_HOLD)
 
 names_line-fits : (args : Args) (names : Names) → names_line args ≡ Ok names → AreNames names
 unfolding names_line
@@ -61,11 +67,11 @@ names_line-fits args names e =
 session_line-fits : (serving : Bool) (before : List Names) (args : Args) (what : Setting) → session_line before args ≡ Ok what → SettingFits serving before what
 unfolding session_line
 session_line-fits serving before args what e =
-    let held = demand-ok (nat_lt (length before) 64) OutOfRange _ what e in
+    let held = demand-ok (nat_lt (length before) MOST_SESSIONS) OutOfRange _ what e in
     let made = as_part-ok setting.Session (names_line args >>= new_names before) what held.1 in
     let found = bind-ok (names_line args) (new_names before) made.0 made.1 in
     let new = if-ok (list_any (λ other. same_names other found.0) before) OutOfRange found.0 made.0 found.2 in
-    let few : length before < 64 = grind (arith, nat_tests, held.0) in
+    let few : length before < MOST_SESSIONS = grind (arith, nat_tests, held.0) in
     let named = names_line-fits args found.0 found.1 in
     let differ : All (λ other. other ≢ found.0) before = none_same before found.0 new.0 in
     subst (SettingFits serving before) (ap setting.Session new.1 ∙ made.2) (few, named, differ)
@@ -74,22 +80,22 @@ limit_line-fits : (serving : Bool) (before : List Names) (word : LimitWord) (arg
 unfolding limit_line
 limit_line-fits serving before limit_word.Lane args what e =
     let made = as_part-ok setting.Lane _ what e in
-    subst (SettingFits serving before) made.2 (number_line-ok 1 16 args made.0 made.1)
+    subst (SettingFits serving before) made.2 (number_line-ok 1 LANE_SLOTS args made.0 made.1)
 limit_line-fits serving before limit_word.Leases args what e =
     let made = as_part-ok setting.Leases _ what e in
-    subst (SettingFits serving before) made.2 (number_line-ok 1 16_777_215 args made.0 made.1)
+    subst (SettingFits serving before) made.2 (number_line-ok 1 MOST_LEASES args made.0 made.1)
 limit_line-fits serving before limit_word.Sends args what e =
     let made = as_part-ok setting.Sends _ what e in
-    subst (SettingFits serving before) made.2 (number_line-ok 1 4_294_967_295 args made.0 made.1)
+    subst (SettingFits serving before) made.2 (number_line-ok 1 MOST_COUNT args made.0 made.1)
 limit_line-fits serving before limit_word.Asks args what e =
     let made = as_part-ok setting.Asks _ what e in
-    subst (SettingFits serving before) made.2 (number_line-ok 1 4_294_967_295 args made.0 made.1)
+    subst (SettingFits serving before) made.2 (number_line-ok 1 MOST_COUNT args made.0 made.1)
 limit_line-fits serving before limit_word.Timeout args what e =
     let made = as_part-ok setting.Timeout _ what e in
-    subst (SettingFits serving before) made.2 (number_line-ok 1 3_600_000 args made.0 made.1)
+    subst (SettingFits serving before) made.2 (number_line-ok 1 MOST_TIMEOUT args made.0 made.1)
 limit_line-fits serving before limit_word.Hold args what e =
     let made = as_part-ok setting.Hold _ what e in
-    subst (SettingFits serving before) made.2 (number_line-ok 1 3_600_000 args made.0 made.1)
+    subst (SettingFits serving before) made.2 (number_line-ok 1 MOST_HOLD args made.0 made.1)
 
 limit_worded-fits : (serving : Bool) (before : List Names) (word : Option (List ℕ)) (args : Args) (what : Setting) → limit_worded word args ≡ Ok what → SettingFits serving before what
 limit_worded-fits serving before None args what e = cc
@@ -108,11 +114,11 @@ unfolding config_line
 config_line-fits serving before config_word.Session args what e = session_line-fits serving before args what e
 config_line-fits serving before config_word.Libraries args what e =
     let made = as_part-ok setting.Libraries _ what e in
-    subst (SettingFits serving before) made.2 (number_line-ok 0 16 args made.0 made.1).1
+    subst (SettingFits serving before) made.2 (number_line-ok 0 MOST_LIBRARIES args made.0 made.1).1
 config_line-fits serving before config_word.Connections args what e =
     let held = demand-ok serving Misplaced _ what e in
     let made = as_part-ok setting.Connections _ what held.1 in
-    subst (SettingFits serving before) made.2 (held.0, (number_line-ok 0 1_024 args made.0 made.1).1)
+    subst (SettingFits serving before) made.2 (held.0, (number_line-ok 0 MOST_CONNECTIONS args made.0 made.1).1)
 config_line-fits serving before config_word.Limit args what e = option_line-fits serving before args what e
 
 -- ---- the lines of `replay`

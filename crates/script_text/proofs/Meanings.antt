@@ -2,7 +2,7 @@
 use Rattle.std.proofs.Common.{◌≡◌, ℕ, suc, ◌+◌, Bool, List, [], ◌∷◌, length, Result, Ok, Err, refl, sym, ap, ◌∙◌, arith, add-one}
 use Rattle.script_text.specs.Grammar.{line_of}
 use Rattle.script_text.specs.Meaning.{lines_of, read_on, script_from}
-use Rattle.script_text.specs.SoFar.{SoFar, said_with}
+use Rattle.script_text.specs.SoFar.{SoFar, said_with, script_said}
 use Rattle.script_text.specs.declared.kinds.ScriptError.{ScriptError}
 use Rattle.script_text.specs.declared.kinds.ScriptError.TheVariants.{Fault}
 use Rattle.script_text.specs.declared.kinds.ScriptKind.{ScriptKind}
@@ -27,11 +27,11 @@ reading_line serving n said after lines texts text line meaning cut found put so
     ∙ sym (from-cons serving n said text texts)
     ∙ ap (script_from serving n said) (sym cut) ∙ so_far
 
-pub from-nil : (serving : Bool) (n : ℕ) (said : SoFar) → script_from serving n said [] ≡ Ok said.script
+pub from-nil : (serving : Bool) (n : ℕ) (said : SoFar) → script_from serving n said [] ≡ Ok (script_said serving said)
 unfolding script_from
 from-nil serving n said = refl
 
-pub reading_end : (serving : Bool) (n : ℕ) (said : SoFar) (rest : List ℕ) (meaning : Result Script ScriptError) → length rest ≡ 0 → script_from serving n said (lines_of rest) ≡ meaning → meaning ≡ Ok said.script
+pub reading_end : (serving : Bool) (n : ℕ) (said : SoFar) (rest : List ℕ) (meaning : Result Script ScriptError) → length rest ≡ 0 → script_from serving n said (lines_of rest) ≡ meaning → meaning ≡ Ok (script_said serving said)
 reading_end serving n said [] meaning none so_far =
     sym so_far ∙ ap (script_from serving n said) lines-nil ∙ from-nil serving n said
 reading_end serving n said (b ∷ bytes) meaning none so_far = absurd (omega arith)

@@ -14,7 +14,7 @@ use Rattle.script_text.specs.Args.{body_at, ends, is_body_text, is_framed, later
 use Rattle.script_text.specs.Grammar.{same_names}
 use Rattle.script_text.specs.Kinds.{◌>>=◌, as_part, both, demand}
 use Rattle.script_text.specs.Words.{is_name}
-use Rattle.script_text.specs.declared.config.Names.{Names}
+use Rattle.session_core.specs.declared.names.Names.{Names}
 use Rattle.script_text.specs.declared.kinds.ScriptKind.{ScriptKind}
 use Rattle.script_text.specs.declared.kinds.ScriptKind.TheVariants.{BadNumber, BadText, OutOfRange}
 use Rattle.script_text.proofs.Bodies.{IsBody-from_text}

@@ -9,9 +9,13 @@ use Rattle.script_text.specs.Printed.{is_printable}
 use Rattle.script_text.specs.Words.{word_in, behind_word, limit_word_of, lib_word_of, opening_of}
 use Rattle.script_text.specs.Args.{ends, keyword_at, later, number_at, number_within, number_line, number_below, moment_at, name_at, text_at, body_at}
 use Rattle.script_text.specs.SoFar.{SoFar}
+use Rattle.engine_config.specs.declared.config.TheConstants.{MOST_HOLD, MOST_TIMEOUT}
 use Rattle.gate_io.specs.declared.wires.TheConstants.{MOST_CONNECTIONS}
-use Rattle.script_text.specs.declared.config.TheConstants.{MOST_ASKS, MOST_LEASES, MOST_SENDS, MOST_SESSIONS}
-use Rattle.script_text.specs.declared.config.Names.{Names}
+use Rattle.lease_core.specs.declared.limits.TheConstants.{MOST_LEASES, MOST_LIBRARIES}
+use Rattle.lease_words.specs.declared.layout.TheConstants.{LANE_SLOTS}
+use Rattle.session_core.specs.declared.routing.TheConstants.{MOST_SESSIONS}
+use Rattle.script_text.specs.declared.limits.TheConstants.{MOST_COUNT}
+use Rattle.session_core.specs.declared.names.Names.{Names}
 use Rattle.script_text.specs.declared.kinds.ScriptKind.{ScriptKind}
 use Rattle.script_text.specs.declared.kinds.ScriptKind.TheVariants.{BadByte, UnknownWord, BadShape, OutOfRange, Misplaced, Backward}
 use Rattle.script_text.specs.declared.lines.Line.{Line}
@@ -55,12 +59,12 @@ session_line before args =
 
 -- what follows the word of a limit
 unfoldable pub limit_line : LimitWord → Option (List ℕ) → Result Setting ScriptKind
-limit_line limit_word.Lane args = as_part setting.Lane (number_line 1 16 args)
+limit_line limit_word.Lane args = as_part setting.Lane (number_line 1 LANE_SLOTS args)
 limit_line limit_word.Leases args = as_part setting.Leases (number_line 1 MOST_LEASES args)
-limit_line limit_word.Sends args = as_part setting.Sends (number_line 1 MOST_SENDS args)
-limit_line limit_word.Asks args = as_part setting.Asks (number_line 1 MOST_ASKS args)
-limit_line limit_word.Timeout args = as_part setting.Timeout (number_line 1 3_600_000 args)
-limit_line limit_word.Hold args = as_part setting.Hold (number_line 1 3_600_000 args)
+limit_line limit_word.Sends args = as_part setting.Sends (number_line 1 MOST_COUNT args)
+limit_line limit_word.Asks args = as_part setting.Asks (number_line 1 MOST_COUNT args)
+limit_line limit_word.Timeout args = as_part setting.Timeout (number_line 1 MOST_TIMEOUT args)
+limit_line limit_word.Hold args = as_part setting.Hold (number_line 1 MOST_HOLD args)
 
 abbrev pub limit_named : Option LimitWord → Option (List ℕ) → Result Setting ScriptKind
 limit_named None args = Err UnknownWord
@@ -77,7 +81,7 @@ option_line args = limit_worded (keyword_at args) (later args)
 -- a line of the configuration, wherever it stands
 unfoldable pub config_line : Bool → List Names → ConfigWord → Option (List ℕ) → Result Setting ScriptKind
 config_line serving before config_word.Session args = session_line before args
-config_line serving before config_word.Libraries args = as_part setting.Libraries (number_line 0 16 args)
+config_line serving before config_word.Libraries args = as_part setting.Libraries (number_line 0 MOST_LIBRARIES args)
 config_line serving before config_word.Connections args =
     demand serving Misplaced (as_part setting.Connections (number_line 0 MOST_CONNECTIONS args))
 config_line serving before config_word.Limit args = option_line args

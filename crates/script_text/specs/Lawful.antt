@@ -1,15 +1,17 @@
 -- What holds of each script that is read.
-use Rattle.std.specs.Prelude.{◌≡◌, ◌≢◌, ℕ, ◌<◌, ◌≤◌, Bool, not, IsTrue, List, [], ◌∷◌, ◌++◌, length, All}
+use Rattle.std.specs.Prelude.{◌≡◌, ℕ, suc, ◌<◌, ◌≤◌, Bool, not, IsTrue, List, [], ◌∷◌, ◌++◌, length, All, Option, IfSome}
 use Rattle.std.specs.List.{AllPairs}
+use Rattle.engine_config.specs.Config.{IsConfig}
+use Rattle.engine_config.specs.declared.config.Config.{Config}
+use Rattle.engine_config.specs.declared.config.DialTo.{DialTo}
 use Rattle.fix_frame.specs.Frame.{IsBody, frame_of}
+use Rattle.fix_frame.specs.declared.layout.TheConstants.{LONGEST_FRAME}
+use Rattle.gate_io.specs.declared.clocks.TheConstants.{LAST_MOMENT}
+use Rattle.gate_io.specs.declared.wires.TheConstants.{MOST_CONNECTIONS, MOST_DIALLED}
+use Rattle.session_core.specs.declared.names.Names.{Names}
 use Rattle.script_text.specs.SoFar.{connects_with, moment_with}
 use Rattle.script_text.specs.Words.{is_name}
-use Rattle.gate_io.specs.declared.wires.TheConstants.{MOST_CONNECTIONS}
-use Rattle.gate_io.specs.declared.clocks.TheConstants.{LAST_MOMENT}
-use Rattle.fix_frame.specs.declared.layout.TheConstants.{LONGEST_FRAME}
-use Rattle.script_text.specs.declared.config.TheConstants.{MOST_ASKS, MOST_LEASES, MOST_SENDS, MOST_SESSIONS}
-use Rattle.script_text.specs.declared.config.Config.{Config}
-use Rattle.script_text.specs.declared.config.Names.{Names}
+use Rattle.script_text.specs.declared.limits.TheConstants.{MOST_COUNT}
 use Rattle.script_text.specs.declared.steps.LibStep.{LibStep}
 use Rattle.script_text.specs.declared.steps.LibStep.TheVariants as act
 use Rattle.script_text.specs.declared.steps.Script.{Script}
@@ -20,20 +22,28 @@ use Rattle.script_text.specs.declared.steps.Step.TheVariants as step
 abbrev pub AreNames : Names → Type 0
 AreNames names = IsTrue (is_name names.us) × IsTrue (is_name names.them)
 
--- each number is in its range, and no two sessions have the same pair of names
-pub record IsLawfulConfig (serving : Bool) (config : Config) : Type 0 where
-  pub few : length config.names ≤ MOST_SESSIONS
+-- to where a session dials, if it does, is a name
+abbrev pub IsAddressed : Option DialTo → Type 0
+IsAddressed to = IfSome to (λ dial. IsTrue (is_name dial.address))
+
+-- what an engine can be configured with, in words that a script can have
+pub record IsLawfulConfig (config : Config) : Type 0 where
+  pub fits : IsConfig config
   pub named : All AreNames config.names
-  pub distinct : AllPairs (λ (a b : Names). a ≢ b) config.names
-  pub libraries : config.libraries ≤ 16
-  pub connections : config.connections ≤ MOST_CONNECTIONS
-  pub replaying : IsTrue (not serving) → config.connections ≡ 0
-  pub lane : (1 ≤ config.lane) × (config.lane ≤ 16)
-  pub leases : (1 ≤ config.leases) × (config.leases ≤ MOST_LEASES)
-  pub sends : (1 ≤ config.sends) × (config.sends ≤ MOST_SENDS)
-  pub asks : (1 ≤ config.asks) × (config.asks ≤ MOST_ASKS)
-  pub timeout : (1 ≤ config.timeout) × (config.timeout ≤ 3_600_000)
-  pub hold : (1 ≤ config.hold) × (config.hold ≤ 3_600_000)
+  pub addressed : All IsAddressed config.dialled
+  pub sends : config.sends ≤ MOST_COUNT
+  pub asks : config.asks ≤ MOST_COUNT
+
+-- how many of the steps are `connect`
+abbrev pub connects_in : List Step → ℕ
+connects_in [] = 0
+connects_in (step.Connect ∷ steps) = suc (connects_in steps)
+connects_in (_ ∷ steps) = connects_in steps
+
+-- a replay has a connection for each `connect` line, and may dial as often as can be
+pub record IsReplay (script : Script) : Type 0 where
+  pub connections : script.config.connections ≡ connects_in script.steps
+  pub dials : script.config.dials ≡ MOST_DIALLED
 
 -- a step of a library that the command has: `answer` and `read` are steps of `serve` alone
 abbrev pub ActFits : Bool → LibStep → Type 0
@@ -70,7 +80,8 @@ abbrev pub line_numbers : Script → List ℕ
 line_numbers script = script.session_lines ++ script.step_lines
 
 pub record IsLawful (serving : Bool) (script : Script) : Type 0 where
-  pub config : IsLawfulConfig serving script.config
+  pub config : IsLawfulConfig script.config
+  pub replays : IsTrue (not serving) → IsReplay script
   pub steps : StepsFit serving script.config.libraries 0 0 script.steps
   pub session_lines : length script.session_lines ≡ length script.config.names
   pub step_lines : length script.step_lines ≡ length script.steps

@@ -4,7 +4,7 @@ use Rattle.std.specs.List.{flat_map, list_all}
 use Rattle.script_text.specs.Grammar.{line_of}
 use Rattle.script_text.specs.Meaning.{lines_of, script_of}
 use Rattle.script_text.specs.Printed.{is_printable, printed_text, bytes_of_text}
-use Rattle.script_text.specs.SoFar.{SoFar, no_lines, said_with}
+use Rattle.script_text.specs.SoFar.{SoFar, no_lines, said_with, script_said}
 use Rattle.script_text.specs.declared.kinds.ScriptError.TheVariants.{Fault}
 use Rattle.script_text.specs.declared.reading.TheConstants.{LONGEST_SCRIPT}
 use Rattle.script_text.specs.declared.kinds.ScriptKind.{ScriptKind}
@@ -52,7 +52,7 @@ pub record IsRead (serving : Bool) (text : List ℕ) (script : Script) : Type 0 
   pub said : SoFar
   pub short : length text ≤ LONGEST_SCRIPT
   pub lines : said_by serving 1 no_lines (lines_of text) ≡ Some said
-  pub whole : said.script ≡ script
+  pub whole : script_said serving said ≡ script
 
 -- line n has this fault, and no line before it has one
 pub record IsFirstFault (serving : Bool) (text : List ℕ) (n : ℕ) (kind : ScriptKind) : Type 0 where

@@ -1,7 +1,7 @@
 -- Names that are lent.
 use Rattle.std.specs.Prelude.{ℕ, List, Result, Ok, Err}
 use Rattle.std.specs.Borrow.{Bor}
-use Rattle.script_text.specs.declared.config.Names.{Names}
+use Rattle.session_core.specs.declared.names.Names.{Names}
 use Rattle.script_text.specs.declared.kinds.ScriptKind.{ScriptKind}
 
 abbrev pub names_of : List ℕ → List ℕ → Names

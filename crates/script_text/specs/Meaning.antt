@@ -1,6 +1,6 @@
 -- The meaning of a whole script.
 use Rattle.std.specs.Prelude.{◌≡◌, ℕ, suc, Bool, ◌==◌, nat_lt, if◌then◌else◌, List, [], ◌∷◌, length, Result, Ok, Err}
-use Rattle.script_text.specs.SoFar.{SoFar, no_lines, said_with}
+use Rattle.script_text.specs.SoFar.{SoFar, no_lines, said_with, script_said}
 use Rattle.script_text.specs.Grammar.{line_of}
 use Rattle.script_text.specs.declared.reading.TheConstants.{LONGEST_SCRIPT}
 use Rattle.script_text.specs.declared.kinds.ScriptError.{ScriptError}
@@ -27,7 +27,7 @@ read_on n read_behind (Err kind) = Err (Fault n kind)
 
 -- what lines say, from line n on, behind what is said so far
 unfoldable pub script_from : Bool → ℕ → SoFar → List (List ℕ) → Result Script ScriptError
-script_from serving n said [] = Ok said.script
+script_from serving n said [] = Ok (script_said serving said)
 script_from serving n said (text ∷ texts) =
     read_on n (λ line. script_from serving (suc n) (said_with n line said) texts) (line_of serving said text)
 

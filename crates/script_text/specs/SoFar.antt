@@ -1,7 +1,10 @@
 -- What the lines read so far say.
-use Rattle.std.specs.Prelude.{ℕ, ◌+◌, List, [], ◌∷◌, ◌++◌}
-use Rattle.script_text.specs.declared.config.TheConstants.{MOST_ASKS, MOST_LEASES, MOST_SENDS}
-use Rattle.script_text.specs.declared.config.Config.{Config}
+use Rattle.std.specs.Prelude.{ℕ, ◌+◌, Bool, if◌then◌else◌, List, [], ◌∷◌, ◌++◌, None}
+use Rattle.gate_io.specs.declared.wires.TheConstants.{MOST_DIALLED}
+use Rattle.lease_core.specs.declared.limits.TheConstants.{MOST_LEASES}
+use Rattle.lease_words.specs.declared.layout.TheConstants.{LANE_SLOTS}
+use Rattle.script_text.specs.declared.limits.TheConstants.{MOST_COUNT, USUAL_HOLD, USUAL_TIMEOUT}
+use Rattle.engine_config.specs.declared.config.Config.{Config}
 use Rattle.script_text.specs.declared.lines.Line.{Line}
 use Rattle.script_text.specs.declared.lines.Line.TheVariants as line
 use Rattle.script_text.specs.declared.lines.Setting.{Setting}
@@ -22,12 +25,14 @@ no_config = record {
   names = [];
   libraries = 0;
   connections = 0;
-  lane = 16;
+  lane = LANE_SLOTS;
   leases = MOST_LEASES;
-  sends = MOST_SENDS;
-  asks = MOST_ASKS;
-  timeout = 5_000;
-  hold = 1_000;
+  sends = MOST_COUNT;
+  asks = MOST_COUNT;
+  timeout = USUAL_TIMEOUT;
+  hold = USUAL_HOLD;
+  dialled = [];
+  dials = 0;
 }
 
 -- before the first line
@@ -40,7 +45,7 @@ no_lines = record {
 
 -- the configuration with one more setting
 abbrev pub config_with : Setting → Config → Config
-config_with (setting.Session names) config = record config { names = config.names ++ names ∷ [] }
+config_with (setting.Session names) config = record config { names = config.names ++ names ∷ []; dialled = config.dialled ++ None ∷ [] }
 config_with (setting.Libraries n) config = record config { libraries = n }
 config_with (setting.Connections n) config = record config { connections = n }
 config_with (setting.Lane n) config = record config { lane = n }
@@ -88,3 +93,12 @@ unfoldable pub said_with : ℕ → Line → SoFar → SoFar
 said_with n line.Blank said = said
 said_with n (line.Config what) said = setting_with n what said
 said_with n (line.Step what) said = step_with n what said
+
+-- a replay has a connection for each `connect` line, and may dial as often as can be
+abbrev pub replay_with : ℕ → Config → Config
+replay_with connects config = record config { connections = connects; dials = MOST_DIALLED }
+
+-- the script of all lines
+abbrev pub script_said : Bool → SoFar → Script
+script_said serving said =
+    if serving then said.script else record said.script { config = replay_with said.connects said.script.config }

@@ -6,12 +6,16 @@ ghost use Rattle.script_text.specs.Grammar.{config_line, limit_line, names_line,
 ghost use Rattle.script_text.specs.Lent.{lent_names, names_of};
 
 use crate::args::Args;
-use crate::config::{MOST_ASKS, MOST_LEASES, MOST_SENDS, MOST_SESSIONS, Names};
 use crate::kinds::ScriptKind;
+use crate::limits::MOST_COUNT;
 use crate::lines::{ConfigWord, LimitWord, Setting};
 use crate::parts::{Part, both, demand};
 use crate::words::limit_word_of;
+use engine_config::{MOST_HOLD, MOST_TIMEOUT};
 use gate_io::{Bytes, MOST_CONNECTIONS, NoMemory};
+use lease_core::{MOST_LEASES, MOST_LIBRARIES};
+use lease_words::LANE_SLOTS;
+use session_core::{MOST_SESSIONS, Names};
 use std::alloc::Global;
 
 /// What a line of the configuration sets, wherever it stands, behind its first word. `before` has
@@ -28,7 +32,7 @@ pub(crate) fn read_config_line(
 {
     match word {
         ConfigWord::Session => read_session_line(alloc, before, args),
-        ConfigWord::Libraries => Ok(args.last_u8(0, 16).map(Setting::Libraries)),
+        ConfigWord::Libraries => Ok(args.last_u8(0, MOST_LIBRARIES).map(Setting::Libraries)),
         ConfigWord::Connections => {
             let line = args.last_u32(0, MOST_CONNECTIONS).map(Setting::Connections);
             Ok(demand(serving, ScriptKind::Misplaced, line))
@@ -95,11 +99,11 @@ fn read_limit_line(word: LimitWord, args: Args<'_>) -> Part<Setting>
     ensures { result ≡ limit_line word args.entry }
 {
     match word {
-        LimitWord::Lane => args.last_u8(1, 16).map(Setting::Lane),
+        LimitWord::Lane => args.last_u8(1, LANE_SLOTS as u8).map(Setting::Lane),
         LimitWord::Leases => args.last_u32(1, MOST_LEASES).map(Setting::Leases),
-        LimitWord::Sends => args.last_u32(1, MOST_SENDS).map(Setting::Sends),
-        LimitWord::Asks => args.last_u32(1, MOST_ASKS).map(Setting::Asks),
-        LimitWord::Timeout => args.last_u64(1, 3_600_000).map(Setting::Timeout),
-        LimitWord::Hold => args.last_u64(1, 3_600_000).map(Setting::Hold),
+        LimitWord::Sends => args.last_u32(1, MOST_COUNT).map(Setting::Sends),
+        LimitWord::Asks => args.last_u32(1, MOST_COUNT).map(Setting::Asks),
+        LimitWord::Timeout => args.last_u64(1, MOST_TIMEOUT).map(Setting::Timeout),
+        LimitWord::Hold => args.last_u64(1, MOST_HOLD).map(Setting::Hold),
     }
 }

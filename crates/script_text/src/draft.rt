@@ -2,12 +2,16 @@
 
 ghost use Rattle.std.specs.Prelude.{◌≡◌, ◌<◌, ◌≤◌, OnOk};
 ghost use Rattle.script_text.specs.Grammar.{no_steps};
-ghost use Rattle.script_text.specs.SoFar.{no_lines, said_with, setting_with, step_with};
+ghost use Rattle.script_text.specs.SoFar.{no_lines, said_with, script_said, setting_with, step_with};
 
-use crate::config::{Config, MOST_ASKS, MOST_LEASES, MOST_SENDS, Names};
+use crate::limits::{MOST_COUNT, USUAL_HOLD, USUAL_TIMEOUT};
 use crate::lines::{Line, Setting};
 use crate::steps::{Script, Step};
-use gate_io::{NoMemory, Rows};
+use engine_config::{Config, DialTo};
+use gate_io::{MOST_DIALLED, NoMemory, Rows};
+use lease_core::MOST_LEASES;
+use lease_words::LANE_SLOTS;
+use session_core::Names;
 use std::alloc::Global;
 use std::marker::Model;
 
@@ -15,6 +19,7 @@ use std::marker::Model;
 #[derive(Drop)]
 pub(crate) struct Draft {
     names: Vec<Names>,
+    dialled: Vec<Option<DialTo>>,
     session_lines: Vec<u32>,
     limits: Limits,
     steps: Vec<Step>,
@@ -34,19 +39,33 @@ struct Limits {
     asks: u32,
     timeout: u64,
     hold: u64,
+    dials: u32,
 }
 
 /// The numbers of the configuration without a line.
 const NO_LINE: Limits = Limits {
     libraries: 0,
     connections: 0,
-    lane: 16,
+    lane: LANE_SLOTS as u8,
     leases: MOST_LEASES,
-    sends: MOST_SENDS,
-    asks: MOST_ASKS,
-    timeout: 5_000,
-    hold: 1_000,
+    sends: MOST_COUNT,
+    asks: MOST_COUNT,
+    timeout: USUAL_TIMEOUT,
+    hold: USUAL_HOLD,
+    dials: 0,
 };
+
+impl Limits {
+    /// Those of a replay with so many `connect` lines.
+    fn of_replay(self, connects: u32) -> Limits
+        ensures { result ≡ record self { connections = connects; dials = MOST_DIALLED } }
+    {
+        let mut limits = self;
+        limits.connections = connects;
+        limits.dials = MOST_DIALLED;
+        limits
+    }
+}
 
 impl Model for Draft {
     ghost use Rattle.script_text.specs.SoFar.{SoFar};
@@ -65,6 +84,8 @@ impl Model for Draft {
           asks = d.limits.asks;
           timeout = d.limits.timeout;
           hold = d.limits.hold;
+          dialled = d.dialled.items;
+          dials = d.limits.dials;
         };
         steps = d.steps.items;
         session_lines = d.session_lines.items;
@@ -82,6 +103,7 @@ impl Draft {
     {
         Draft {
             names: Vec::new(alloc),
+            dialled: Vec::new(alloc),
             session_lines: Vec::new(alloc),
             limits: NO_LINE,
             steps: Vec::new(alloc),
@@ -146,6 +168,7 @@ impl Draft {
         match setting {
             Setting::Session(names) => {
                 self.names.push(names)?;
+                self.dialled.push(None)?;
                 self.session_lines.push(number)?;
             }
             Setting::Libraries(n) => self.limits.libraries = n,
@@ -177,20 +200,27 @@ impl Draft {
     }
 
     /// The script of all lines.
-    pub(crate) fn finish(self) -> Script
-        ensures { result ≡ self.script }
+    pub(crate) fn finish(self, serving: bool) -> Script
+        ensures { result ≡ script_said serving self }
     {
+        let limits = if serving {
+            self.limits
+        } else {
+            self.limits.of_replay(self.connects)
+        };
         Script {
             config: Config {
                 names: Rows::of(self.names),
-                libraries: self.limits.libraries,
-                connections: self.limits.connections,
-                lane: self.limits.lane,
-                leases: self.limits.leases,
-                sends: self.limits.sends,
-                asks: self.limits.asks,
-                timeout: self.limits.timeout,
-                hold: self.limits.hold,
+                libraries: limits.libraries,
+                connections: limits.connections,
+                lane: limits.lane,
+                leases: limits.leases,
+                sends: limits.sends,
+                asks: limits.asks,
+                timeout: limits.timeout,
+                hold: limits.hold,
+                dialled: Rows::of(self.dialled),
+                dials: limits.dials,
             },
             steps: Rows::of(self.steps),
             session_lines: Rows::of(self.session_lines),

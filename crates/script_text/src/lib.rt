@@ -5,13 +5,13 @@
 #![tactic(auto)]
 
 mod args;
-mod config;
 mod config_lines;
 mod draft;
 mod event_lines;
 mod kinds;
 pub mod laws;
 mod lib_lines;
+mod limits;
 mod lines;
 mod parts;
 mod printed;
@@ -19,8 +19,10 @@ mod reading;
 mod steps;
 mod words;
 
-pub use config::{Config, MOST_ASKS, MOST_LEASES, MOST_SENDS, MOST_SESSIONS, Names};
+pub use engine_config::{Config, DialTo};
 pub use kinds::{ScriptError, ScriptKind};
+pub use limits::MOST_COUNT;
 pub use printed::{push_printed, read_text};
 pub use reading::{LONGEST_SCRIPT, read_script};
+pub use session_core::Names;
 pub use steps::{LibStep, Script, Step};

@@ -1,7 +1,7 @@
 //! What a line of a script is, before it is put to the others.
 
-use crate::config::Names;
 use crate::steps::Step;
+use session_core::Names;
 
 /// What a line says.
 #[derive(Debug, Drop)]

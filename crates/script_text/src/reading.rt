@@ -53,7 +53,7 @@ pub fn read_script(alloc: Global, text: &[u8], serving: bool) -> Result<Script, 
         rest = behind;
     }
     moments_have_a_bound();
-    Ok(draft.finish())
+    Ok(draft.finish(serving))
 }
 
 /// The first line, and what stands behind its end.

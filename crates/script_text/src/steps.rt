@@ -1,6 +1,6 @@
 //! What a script says is to happen.
 
-use crate::config::Config;
+use engine_config::Config;
 use gate_io::{Bytes, Rows};
 
 /// What a line other than those of the configuration says.
