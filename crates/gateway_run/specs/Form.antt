@@ -2,6 +2,8 @@
 use Rattle.std.specs.Prelude.{ℕ, ◌+◌, ◌==◌, nat_lt, Bool, true, false, not, ◌&&◌, List, [], ◌∷◌, length, slice_index_or, Option, None, Some, Result, Ok, Err, if◌then◌else◌}
 use Rattle.std.specs.List.{list_any}
 use Rattle.std.specs.Option.{is_some, option_map}
+use Rattle.engine_config.specs.Config.{dial_of}
+use Rattle.engine_config.specs.declared.config.Config.{Config}
 use Rattle.fix_fields.specs.Field.{Field}
 use Rattle.fix_fields.specs.Reading.{fields_of}
 use Rattle.fix_fields.specs.Pairs.{is_paired}
@@ -62,8 +64,17 @@ abbrev pub unbuilt_from : List Names → ℕ → Form → List Step → Option �
 unbuilt_from names n form [] = None
 unbuilt_from names n form (step ∷ steps) = if is_built names form step then unbuilt_from names (n + 1) (form_after step form) steps else Some n
 
--- the first line that isn't built: that of a second session, or of the first step that isn't
+-- the place of the first session that isn't built: one that dials, or a second one
+abbrev pub unbuilt_session : Config → Option ℕ
+unbuilt_session config =
+    if is_some (dial_of config 0) then Some 0 else if nat_lt 1 (length config.names) then Some 1 else None
+
+-- the first line that isn't built: that of a session at this place, or of the first step that isn't
+abbrev pub unbuilt_behind : Script → Option ℕ → Option ℕ
+unbuilt_behind script (Some s) = Some (slice_index_or script.session_lines s 0)
+unbuilt_behind script None =
+    option_map (λ n. slice_index_or script.step_lines n 0) (unbuilt_from script.config.names 0 no_form script.steps)
+
+-- the first line that isn't built
 unfoldable pub unbuilt_line : Script → Option ℕ
-unbuilt_line script =
-    if nat_lt 1 (length script.config.names) then Some (slice_index_or script.session_lines 1 0)
-    else option_map (λ n. slice_index_or script.step_lines n 0) (unbuilt_from script.config.names 0 no_form script.steps)
+unbuilt_line script = unbuilt_behind script (unbuilt_session script.config)

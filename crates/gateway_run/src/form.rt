@@ -2,16 +2,18 @@
 
 ghost use Rattle.std.specs.Prelude.{◌≡◌, ◌+◌, ◌≤◌, ◌<◌, true, IfOk, slice_index_or, length};
 ghost use Rattle.std.specs.List.{list_any};
+ghost use Rattle.std.specs.Option.{is_some};
+ghost use Rattle.engine_config.specs.Config.{dial_of};
 ghost use Rattle.fix_fields.specs.Pairs.{is_paired};
 ghost use Rattle.fix_fields.specs.Reading.{fields_of};
-ghost use Rattle.gateway_run.specs.Form.{no_form, is_answered, are_next, read_as_next, is_next, is_built, form_after, unbuilt_from, unbuilt_line};
+ghost use Rattle.gateway_run.specs.Form.{no_form, is_answered, are_next, read_as_next, is_next, is_built, form_after, unbuilt_from, unbuilt_line, unbuilt_session};
 ghost use Rattle.gateway_run.specs.Forms.{form_of};
 ghost use Rattle.gateway_run.specs.Session.{route};
 
 use crate::session::{Session, route};
 use fix_fields::{FieldError, Fields, is_paired};
 use gate_io::NoMemory;
-use script_text::{Names, Script, Step};
+use script_text::{Config, Names, Script, Step};
 use std::alloc::Global;
 
 /// What counts of the lines before one.
@@ -28,13 +30,38 @@ pub struct Form {
 pub fn unbuilt_line(alloc: Global, script: &Script) -> Result<Option<u32>, NoMemory>
     ensures { IfOk result (λ line. line ≡ unbuilt_line script.now) }
 {
-    let names = script.config.names.as_slice();
-    if names.len() > 1 {
-        return Ok(Some(number_at(script.session_lines.as_slice(), 1)));
+    if let Some(s) = unbuilt_session(&script.config) {
+        return Ok(Some(number_at(script.session_lines.as_slice(), s)));
     }
+    let names = script.config.names.as_slice();
     match unbuilt_place(alloc, names, script.steps.as_slice())? {
         Some(place) => Ok(Some(number_at(script.step_lines.as_slice(), place))),
         None => Ok(None),
+    }
+}
+
+/// The place of the first session that isn't built, if there is one: one that dials, or a second
+/// one.
+fn unbuilt_session(config: &Config) -> Option<usize>
+    ensures { result ≡ unbuilt_session config.now }
+{
+    if dials(config) {
+        return Some(0);
+    }
+    if config.names.as_slice().len() > 1 {
+        Some(1)
+    } else {
+        None
+    }
+}
+
+/// Whether the first session dials.
+fn dials(config: &Config) -> bool
+    ensures { result ≡ is_some (dial_of config.now 0) }
+{
+    match config.dialled.as_slice().get(0) {
+        Some(to) => to.is_some(),
+        None => false,
     }
 }
 

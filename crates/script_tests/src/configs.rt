@@ -9,14 +9,17 @@ fn the_configuration_without_a_line(rt: HostRuntime) -> Result<(), Fail> {
     let config = script.config;
     assert_eq!(rt; config.names.as_slice().len(), 0);
     assert_eq!(rt;
-        (config.libraries, config.connections, config.lane),
-        (0, 0, 16)
+        (config.libraries, config.connections, config.dials),
+        (0, 0, 1_024)
     );
     assert_eq!(rt;
         (config.leases, config.sends, config.asks),
         (16_777_215, 4_294_967_295, 4_294_967_295)
     );
-    assert_eq!(rt; (config.timeout, config.hold), (5_000, 1_000));
+    assert_eq!(rt;
+        (config.lane, config.timeout, config.hold),
+        (16, 5_000, 1_000)
+    );
     Ok(())
 }
 

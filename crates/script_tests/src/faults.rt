@@ -12,7 +12,7 @@ fn each_kind_of_fault(rt: HostRuntime) {
         (" turn\n", 1, ScriptKind::UnknownWord),
         (" \n", 1, ScriptKind::UnknownWord),
         ("Turn\n", 1, ScriptKind::UnknownWord),
-        ("dial 0\n", 1, ScriptKind::UnknownWord),
+        ("dialed 0\n", 1, ScriptKind::UnknownWord),
         ("libraries 1\nlib 1 take 0\n", 2, ScriptKind::UnknownWord),
         ("libraries 1\nlib 1 \n", 2, ScriptKind::UnknownWord),
         ("libraries 1\nlib  \n", 2, ScriptKind::UnknownWord),

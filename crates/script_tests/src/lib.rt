@@ -6,6 +6,10 @@ mod answers;
 #[cfg(test)]
 mod configs;
 #[cfg(test)]
+mod connections;
+#[cfg(test)]
+mod dials;
+#[cfg(test)]
 mod faults;
 #[cfg(test)]
 mod limits;

@@ -38,12 +38,21 @@ fn the_longest_frame_and_one_byte_more(rt: HostRuntime) -> Result<(), Fail> {
     Ok(())
 }
 
+/// Of even places a session that accepts, and of odd ones a session that dials.
+fn session_line(alloc: Global, i: u32) -> Result<String, Fail> {
+    if i % 2 == 0 {
+        Ok(format!(in alloc; "session GATE P{i}\n")?)
+    } else {
+        Ok(format!(in alloc; "dial GATE P{i} hub:1 30 1000\n")?)
+    }
+}
+
 #[test]
 fn sessions_and_connections_at_their_limits(rt: HostRuntime) -> Result<(), Fail> {
     let alloc = rt.alloc();
     let mut text = Vec::new(alloc);
     for i in 0..64 {
-        text.extend_from_slice(format!(in alloc; "session GATE P{i}\n")?.as_bytes())?;
+        text.extend_from_slice(session_line(alloc, i)?.as_bytes())?;
     }
     for _ in 0..1_024 {
         text.extend_from_slice(b"connect\n")?;
@@ -57,12 +66,19 @@ fn sessions_and_connections_at_their_limits(rt: HostRuntime) -> Result<(), Fail>
         fault(1_090, ScriptKind::OutOfRange)
     );
     let mut text = Vec::new(alloc);
-    for i in 0..65 {
-        text.extend_from_slice(format!(in alloc; "session GATE P{i}\n")?.as_bytes())?;
+    for i in 0..64 {
+        text.extend_from_slice(session_line(alloc, i)?.as_bytes())?;
     }
-    assert_eq!(rt;
-        error_of(&rt, &text, false),
-        fault(65, ScriptKind::OutOfRange)
-    );
+    for more in [
+        b"session GATE Q\n".as_slice(),
+        b"dial GATE Q hub:1 30 1000\n",
+    ] {
+        let mut text = Vec::from_slice(alloc, &text)?;
+        text.extend_from_slice(more)?;
+        assert_eq!(rt;
+            error_of(&rt, &text, false),
+            fault(65, ScriptKind::OutOfRange)
+        );
+    }
     Ok(())
 }

@@ -30,6 +30,7 @@ fn push_step(out: &mut Vec<u8>, step: &Step, alloc: Global) -> Result<(), Fail> 
     let text = match step {
         Step::At { .. } => format!(in alloc; "at ")?,
         Step::Connect => format!(in alloc; "connect")?,
+        Step::Take => format!(in alloc; "take")?,
         Step::Bytes { c, .. } => format!(in alloc; "bytes {c} ")?,
         Step::Frame { c, .. } => format!(in alloc; "frame {c} ")?,
         Step::Finish { c } => format!(in alloc; "finish {c}")?,
@@ -66,6 +67,7 @@ fn each_line_of_replay_is_read_as_it_is_written(rt: HostRuntime) -> Result<(), F
     let steps =
         "at 20260105-09:30:00.000\nconnect\nconnect\nbytes 1  x |\\7c\\5c\\00\\ff \nbytes 0 \n\
         frame 0 35=A|49=BUYER|56=GATE|34=1|52=20260105-09:30:00.000|98=0|108=30|\n\
+        take\nbytes 1024 y\nfailread 1024\ntake\nfinish 1025\n\
         finish 0\nfailread 1\nfailwrite 0 18446744073709551615\nblock 1 7\nunblock 1\nturn\n\
         lib 1 request 65535 18446744073709551615\nlib 2 poll\nlib 1 send 0 35=8|37=O1|\nlib 1 send 1 \n\
         lib 2 release 3\nlib 16 beat\nlib 1 hand 0 255\nlib 1 hand 0 0\n";
@@ -78,17 +80,20 @@ fn each_line_of_replay_is_read_as_it_is_written(rt: HostRuntime) -> Result<(), F
     );
     let lines = script.step_lines.as_slice();
     assert_eq!(rt; lines.first().copied(), Some(4));
-    assert_eq!(rt; lines.last().copied(), Some(23));
+    assert_eq!(rt; lines.last().copied(), Some(28));
     Ok(())
 }
 
 #[test]
 fn each_line_of_serve_is_read_as_it_is_written(rt: HostRuntime) -> Result<(), Fail> {
     let steps = "lib 1 request 0 0\nlib 1 answer\nlib 1 read 0\nlib 2 poll\nlib 2 hand 7 1\n";
-    let mut text = Vec::from_slice(rt.alloc(), b"connections 1024\nlibraries 2\n")?;
+    let mut text = Vec::from_slice(rt.alloc(), b"connections 1024\ndials 1024\nlibraries 2\n")?;
     text.extend_from_slice(steps.as_bytes())?;
     let script = read_script(rt.alloc(), &text, true)?;
-    assert_eq!(rt; script.config.connections, 1_024);
+    assert_eq!(rt;
+        (script.config.connections, script.config.dials),
+        (1_024, 1_024)
+    );
     assert_eq!(rt;
         steps_text(rt.alloc(), &script)?.as_slice(),
         steps.as_bytes()

@@ -24,7 +24,6 @@ use Rattle.script_text.specs.declared.lines.Setting.{Setting}
 use Rattle.script_text.specs.declared.lines.Setting.TheVariants as setting
 use Rattle.script_text.proofs.LineFacts.{SettingFits}
 
--- to where a session dials, if it does
 abbrev pub DialFits : Option DialTo → Type 0
 DialFits to = IfSome to IsDial
 
@@ -67,7 +66,7 @@ no_config-so_far =
     }
 
 pub config_with-so_far : (serving : Bool) (config : Config) (what : Setting) → ConfigSoFar config → SettingFits serving config.names what → ConfigSoFar (config_with what config)
-config_with-so_far serving config (setting.Session names) h fits =
+config_with-so_far serving config (setting.Session names to) h fits =
     record {
       few = omega (arith, fits.0, length_push config.names names);
       named = All-push AreNames config.names names h.named fits.1;
@@ -80,9 +79,9 @@ config_with-so_far serving config (setting.Session names) h fits =
       asks = h.asks;
       timeout = h.timeout;
       hold = h.hold;
-      dialled = omega (arith, h.dialled, length_push config.names names, length_push config.dialled None);
-      addressed = All-push IsAddressed config.dialled None h.addressed tt;
-      each_dial = All-push DialFits config.dialled None h.each_dial tt;
+      dialled = omega (arith, h.dialled, length_push config.names names, length_push config.dialled to);
+      addressed = All-push IsAddressed config.dialled to h.addressed fits.3;
+      each_dial = All-push DialFits config.dialled to h.each_dial fits.4;
       dials = h.dials;
     }
 config_with-so_far serving config (setting.Libraries n) h fits =
@@ -120,6 +119,24 @@ config_with-so_far serving config (setting.Connections n) h fits =
       addressed = h.addressed;
       each_dial = h.each_dial;
       dials = h.dials;
+    }
+config_with-so_far serving config (setting.Dials n) h fits =
+    record {
+      few = h.few;
+      named = h.named;
+      distinct = h.distinct;
+      libraries = h.libraries;
+      connections = h.connections;
+      lane = h.lane;
+      leases = h.leases;
+      sends = h.sends;
+      asks = h.asks;
+      timeout = h.timeout;
+      hold = h.hold;
+      dialled = h.dialled;
+      addressed = h.addressed;
+      each_dial = h.each_dial;
+      dials = fits.1;
     }
 config_with-so_far serving config (setting.Lane n) h fits =
     record {

@@ -1,24 +1,26 @@
 -- Each script that is read is lawful.
-use Rattle.std.proofs.Common.{◌≡◌, ℕ, suc, ◌+◌, ◌<◌, ◌≤◌, Bool, true, false, not, List, [], ◌∷◌, ◌++◌, length, Ok, Err, All, IsTrue, refl, sym, ap, ◌∙◌, arith, subst, append_assoc, append-nil}
+use Rattle.std.proofs.Common.{◌≡◌, ℕ, suc, ◌+◌, ◌<◌, ◌≤◌, Bool, true, false, not, List, [], ◌∷◌, ◌++◌, length, Option, Ok, Err, All, IsTrue, refl, sym, ap, ◌∙◌, arith, subst, append_assoc, append-nil}
 use Rattle.std.proofs.lemmas.List.{length_push}
 use Rattle.std.proofs.lemmas.List.Elements.{All-nil, All-push}
 use Rattle.std.proofs.lemmas.List.Quantifiers.{all_pairs_push}
 use Rattle.std.specs.List.{AllPairs}
 use Rattle.std.specs.Prelude.{nat_lt, if◌then◌else◌}
 use Rattle.engine_config.specs.declared.config.Config.{Config}
+use Rattle.engine_config.specs.declared.config.DialTo.{DialTo}
 use Rattle.fix_fields.specs.Laws.{MomentsHaveABound}
 use Rattle.gate_io.specs.declared.wires.TheConstants.{MOST_CONNECTIONS}
 use Rattle.session_core.specs.declared.names.Names.{Names}
 use Rattle.script_text.specs.Grammar.{line_of}
 use Rattle.script_text.specs.Lawful.{IsLawful, StepFits, StepsFit, connects_in, line_numbers}
 use Rattle.script_text.specs.Meaning.{lines_of, read_on, script_from, script_of}
-use Rattle.script_text.specs.SoFar.{SoFar, config_with, connects_with, moment_with, no_lines, replay_with, said_with, script_said, setting_with, step_with}
+use Rattle.script_text.specs.SoFar.{SoFar, config_with, first_numbers, moment_with, no_lines, numbers_with, replay_with, said_with, script_said, setting_with, step_with}
 use Rattle.script_text.specs.declared.kinds.ScriptError.TheVariants.{Fault}
 use Rattle.script_text.specs.declared.kinds.ScriptKind.TheVariants.{TooLong}
 use Rattle.script_text.specs.declared.lines.Line.{Line}
 use Rattle.script_text.specs.declared.lines.Line.TheVariants as line
 use Rattle.script_text.specs.declared.lines.Setting.{Setting}
 use Rattle.script_text.specs.declared.lines.Setting.TheVariants as setting
+use Rattle.script_text.specs.declared.numbers.NextNumbers.{NextNumbers}
 use Rattle.script_text.specs.declared.steps.Script.{Script}
 use Rattle.script_text.specs.declared.steps.Step.{Step}
 use Rattle.script_text.specs.declared.steps.Step.TheVariants as step
@@ -28,72 +30,74 @@ use Rattle.script_text.proofs.Meanings.{from-cons, from-nil}
 
 -- ---- the steps
 
--- the number of connections and the present moment behind steps
-abbrev pub connects_behind : ℕ → List Step → ℕ
-connects_behind count [] = count
-connects_behind count (first ∷ rest) = connects_behind (connects_with first count) rest
+-- the next numbers and the present moment behind steps
+abbrev pub numbers_behind : NextNumbers → List Step → NextNumbers
+numbers_behind next [] = next
+numbers_behind next (first ∷ rest) = numbers_behind (numbers_with first next) rest
 
 abbrev pub moment_behind : ℕ → List Step → ℕ
 moment_behind present [] = present
 moment_behind present (first ∷ rest) = moment_behind (moment_with first present) rest
 
-connects_behind-push : (count : ℕ) (steps : List Step) (what : Step) → connects_behind count (steps ++ what ∷ []) ≡ connects_with what (connects_behind count steps)
-connects_behind-push count [] what = refl
-connects_behind-push count (first ∷ rest) what = connects_behind-push (connects_with first count) rest what
+numbers_behind-push : (next : NextNumbers) (steps : List Step) (what : Step) → numbers_behind next (steps ++ what ∷ []) ≡ numbers_with what (numbers_behind next steps)
+numbers_behind-push next [] what = refl
+numbers_behind-push next (first ∷ rest) what = numbers_behind-push (numbers_with first next) rest what
 
 moment_behind-push : (present : ℕ) (steps : List Step) (what : Step) → moment_behind present (steps ++ what ∷ []) ≡ moment_with what (moment_behind present steps)
 moment_behind-push present [] what = refl
 moment_behind-push present (first ∷ rest) what = moment_behind-push (moment_with first present) rest what
 
-fit-push : (serving : Bool) (libraries connects present : ℕ) (steps : List Step) (what : Step) → StepsFit serving libraries connects present steps → StepFits serving libraries (connects_behind connects steps) (moment_behind present steps) what → StepsFit serving libraries connects present (steps ++ what ∷ [])
-fit-push serving libraries connects present [] what all fits = (fits, tt)
-fit-push serving libraries connects present (first ∷ rest) what all fits =
-    (all.0, fit-push serving libraries (connects_with first connects) (moment_with first present) rest what all.1 fits)
+fit-push : (serving : Bool) (libraries : ℕ) (next : NextNumbers) (present : ℕ) (steps : List Step) (what : Step) → StepsFit serving libraries next present steps → StepFits serving libraries (numbers_behind next steps) (moment_behind present steps) what → StepsFit serving libraries next present (steps ++ what ∷ [])
+fit-push serving libraries next present [] what all fits = (fits, tt)
+fit-push serving libraries next present (first ∷ rest) what all fits =
+    (all.0, fit-push serving libraries (numbers_with first next) (moment_with first present) rest what all.1 fits)
 
-fit-none : (serving : Bool) (libraries connects present : ℕ) (steps : List Step) → length steps ≡ 0 → StepsFit serving libraries connects present steps
-fit-none serving libraries connects present [] none = tt
-fit-none serving libraries connects present (first ∷ rest) none = absurd (omega arith)
+fit-none : (serving : Bool) (libraries : ℕ) (next : NextNumbers) (present : ℕ) (steps : List Step) → length steps ≡ 0 → StepsFit serving libraries next present steps
+fit-none serving libraries next present [] none = tt
+fit-none serving libraries next present (first ∷ rest) none = absurd (omega arith)
 
--- the connections behind steps are those before them and one for each `connect`
-connects_behind-count : (count : ℕ) (steps : List Step) → connects_behind count steps ≡ count + connects_in steps
-connects_behind-count count [] = omega arith
-connects_behind-count count (step.At now ∷ rest) = connects_behind-count count rest
-connects_behind-count count (step.Connect ∷ rest) = omega (arith, connects_behind-count (count + 1) rest)
-connects_behind-count count (step.Bytes c bytes ∷ rest) = connects_behind-count count rest
-connects_behind-count count (step.Frame c body ∷ rest) = connects_behind-count count rest
-connects_behind-count count (step.Finish c ∷ rest) = connects_behind-count count rest
-connects_behind-count count (step.FailRead c ∷ rest) = connects_behind-count count rest
-connects_behind-count count (step.FailWrite c after ∷ rest) = connects_behind-count count rest
-connects_behind-count count (step.Block c after ∷ rest) = connects_behind-count count rest
-connects_behind-count count (step.Unblock c ∷ rest) = connects_behind-count count rest
-connects_behind-count count (step.Turn ∷ rest) = connects_behind-count count rest
-connects_behind-count count (step.Lib library what ∷ rest) = connects_behind-count count rest
+-- the connections that come behind steps are those before them and one for each `connect`
+connects-count : (next : NextNumbers) (steps : List Step) → (numbers_behind next steps).connect ≡ next.connect + connects_in steps
+connects-count next [] = omega arith
+connects-count next (step.At now ∷ rest) = connects-count next rest
+connects-count next (step.Connect ∷ rest) = omega (arith, connects-count (record next { connect = next.connect + 1 }) rest)
+connects-count next (step.Take ∷ rest) = connects-count (record next { take = next.take + 1 }) rest
+connects-count next (step.Bytes c bytes ∷ rest) = connects-count next rest
+connects-count next (step.Frame c body ∷ rest) = connects-count next rest
+connects-count next (step.Finish c ∷ rest) = connects-count next rest
+connects-count next (step.FailRead c ∷ rest) = connects-count next rest
+connects-count next (step.FailWrite c after ∷ rest) = connects-count next rest
+connects-count next (step.Block c after ∷ rest) = connects-count next rest
+connects-count next (step.Unblock c ∷ rest) = connects-count next rest
+connects-count next (step.Turn ∷ rest) = connects-count next rest
+connects-count next (step.Lib library what ∷ rest) = connects-count next rest
 
--- a step that fits leaves no more connections than there may be
-few-step : (serving : Bool) (libraries connects present : ℕ) (what : Step) → connects ≤ MOST_CONNECTIONS → StepFits serving libraries connects present what → connects_with what connects ≤ MOST_CONNECTIONS
-few-step serving libraries connects present (step.At now) few fits = few
-few-step serving libraries connects present step.Connect few fits = let below : connects < MOST_CONNECTIONS = fits.1 in omega arith
-few-step serving libraries connects present (step.Bytes c bytes) few fits = few
-few-step serving libraries connects present (step.Frame c body) few fits = few
-few-step serving libraries connects present (step.Finish c) few fits = few
-few-step serving libraries connects present (step.FailRead c) few fits = few
-few-step serving libraries connects present (step.FailWrite c after) few fits = few
-few-step serving libraries connects present (step.Block c after) few fits = few
-few-step serving libraries connects present (step.Unblock c) few fits = few
-few-step serving libraries connects present step.Turn few fits = few
-few-step serving libraries connects present (step.Lib library what) few fits = few
+-- a step that fits leaves no more connections than may come
+few-step : (serving : Bool) (libraries : ℕ) (next : NextNumbers) (present : ℕ) (what : Step) → next.connect ≤ MOST_CONNECTIONS → StepFits serving libraries next present what → (numbers_with what next).connect ≤ MOST_CONNECTIONS
+few-step serving libraries next present (step.At now) few fits = few
+few-step serving libraries next present step.Connect few fits = let below : next.connect < MOST_CONNECTIONS = fits.1 in omega arith
+few-step serving libraries next present step.Take few fits = few
+few-step serving libraries next present (step.Bytes c bytes) few fits = few
+few-step serving libraries next present (step.Frame c body) few fits = few
+few-step serving libraries next present (step.Finish c) few fits = few
+few-step serving libraries next present (step.FailRead c) few fits = few
+few-step serving libraries next present (step.FailWrite c after) few fits = few
+few-step serving libraries next present (step.Block c after) few fits = few
+few-step serving libraries next present (step.Unblock c) few fits = few
+few-step serving libraries next present step.Turn few fits = few
+few-step serving libraries next present (step.Lib library what) few fits = few
 
 -- ---- the lines so far
 
 -- what holds of the lines before line n, and what is kept beside the script is that of its steps
 pub record Kept (serving : Bool) (n : ℕ) (said : SoFar) : Type 0 where
   pub config : ConfigSoFar said.script.config
-  pub steps : StepsFit serving said.script.config.libraries 0 0 said.script.steps
+  pub steps : StepsFit serving said.script.config.libraries first_numbers 0 said.script.steps
   pub session_lines : length said.script.session_lines ≡ length said.script.config.names
   pub step_lines : length said.script.step_lines ≡ length said.script.steps
   pub in_order : AllPairs (λ (a b : ℕ). a < b) (line_numbers said.script)
-  pub connects : said.connects ≡ connects_behind 0 said.script.steps
-  pub few : said.connects ≤ MOST_CONNECTIONS
+  pub next : said.next ≡ numbers_behind first_numbers said.script.steps
+  pub few : said.next.connect ≤ MOST_CONNECTIONS
   pub moment : said.moment ≡ moment_behind 0 said.script.steps
   pub below : All (λ m. m < n) (line_numbers said.script)
 
@@ -105,7 +109,7 @@ kept_start serving =
       session_lines = refl;
       step_lines = refl;
       in_order = λ i j d h within. absurd (omega arith);
-      connects = refl;
+      next = refl;
       few = omega arith;
       moment = refl;
       below = All-nil (λ m. m < 1);
@@ -131,17 +135,17 @@ numbers-session sessions steps n none =
     ∙ ap (λ (xs : List ℕ). xs ++ n ∷ []) (sym (append-nil sessions))
     ∙ ap (λ (xs : List ℕ). (sessions ++ xs) ++ n ∷ []) (sym (no_items steps none))
 
-kept_session : (serving : Bool) (n : ℕ) (said : SoFar) (names : Names) → Kept serving n said → length said.script.steps ≡ 0 → SettingFits serving said.script.config.names (setting.Session names) → Kept serving (suc n) (setting_with n (setting.Session names) said)
-kept_session serving n said names kept none fits =
+kept_session : (serving : Bool) (n : ℕ) (said : SoFar) (names : Names) (to : Option DialTo) → Kept serving n said → length said.script.steps ≡ 0 → SettingFits serving said.script.config.names (setting.Session names to) → Kept serving (suc n) (setting_with n (setting.Session names to) said)
+kept_session serving n said names to kept none fits =
     let no_numbers : length said.script.step_lines ≡ 0 = omega (arith, kept.step_lines) in
     let numbers = numbers-session said.script.session_lines said.script.step_lines n no_numbers in
     record {
-      config = config_with-so_far serving said.script.config (setting.Session names) kept.config fits;
-      steps = fit-none serving _ 0 0 said.script.steps none;
+      config = config_with-so_far serving said.script.config (setting.Session names to) kept.config fits;
+      steps = fit-none serving _ first_numbers 0 said.script.steps none;
       session_lines = omega (arith, kept.session_lines, length_push said.script.session_lines n, length_push said.script.config.names names);
       step_lines = kept.step_lines;
       in_order = subst (AllPairs (λ (a b : ℕ). a < b)) (sym numbers) (more-in_order n _ kept.below kept.in_order);
-      connects = kept.connects;
+      next = kept.next;
       few = kept.few;
       moment = kept.moment;
       below = subst (All (λ m. m < suc n)) (sym numbers) (more-below n _ kept.below);
@@ -152,22 +156,24 @@ kept_config : (serving : Bool) (n : ℕ) (said : SoFar) (config : Config) → Ke
 kept_config serving n said config kept none so_far same =
     record {
       config = so_far;
-      steps = fit-none serving _ 0 0 said.script.steps none;
+      steps = fit-none serving _ first_numbers 0 said.script.steps none;
       session_lines = kept.session_lines ∙ same;
       step_lines = kept.step_lines;
       in_order = kept.in_order;
-      connects = kept.connects;
+      next = kept.next;
       few = kept.few;
       moment = kept.moment;
       below = later-below n _ kept.below;
     }
 
 kept_setting : (serving : Bool) (n : ℕ) (said : SoFar) (what : Setting) → Kept serving n said → length said.script.steps ≡ 0 → SettingFits serving said.script.config.names what → Kept serving (suc n) (setting_with n what said)
-kept_setting serving n said (setting.Session names) kept none fits = kept_session serving n said names kept none fits
+kept_setting serving n said (setting.Session names to) kept none fits = kept_session serving n said names to kept none fits
 kept_setting serving n said (setting.Libraries x) kept none fits =
     kept_config serving n said _ kept none (config_with-so_far serving said.script.config (setting.Libraries x) kept.config fits) refl
 kept_setting serving n said (setting.Connections x) kept none fits =
     kept_config serving n said _ kept none (config_with-so_far serving said.script.config (setting.Connections x) kept.config fits) refl
+kept_setting serving n said (setting.Dials x) kept none fits =
+    kept_config serving n said _ kept none (config_with-so_far serving said.script.config (setting.Dials x) kept.config fits) refl
 kept_setting serving n said (setting.Lane x) kept none fits =
     kept_config serving n said _ kept none (config_with-so_far serving said.script.config (setting.Lane x) kept.config fits) refl
 kept_setting serving n said (setting.Leases x) kept none fits =
@@ -181,19 +187,19 @@ kept_setting serving n said (setting.Timeout x) kept none fits =
 kept_setting serving n said (setting.Hold x) kept none fits =
     kept_config serving n said _ kept none (config_with-so_far serving said.script.config (setting.Hold x) kept.config fits) refl
 
-kept_step : (serving : Bool) (n : ℕ) (said : SoFar) (what : Step) → Kept serving n said → StepFits serving said.script.config.libraries said.connects said.moment what → Kept serving (suc n) (step_with n what said)
+kept_step : (serving : Bool) (n : ℕ) (said : SoFar) (what : Step) → Kept serving n said → StepFits serving said.script.config.libraries said.next said.moment what → Kept serving (suc n) (step_with n what said)
 kept_step serving n said what kept fits =
     let script = said.script in
     let numbers : script.session_lines ++ (script.step_lines ++ n ∷ []) ≡ (script.session_lines ++ script.step_lines) ++ n ∷ [] = sym (append_assoc script.session_lines script.step_lines (n ∷ [])) in
-    let behind = subst (λ m. StepFits serving script.config.libraries (connects_behind 0 script.steps) m what) kept.moment (subst (λ c. StepFits serving script.config.libraries c said.moment what) kept.connects fits) in
+    let behind = subst (λ m. StepFits serving script.config.libraries (numbers_behind first_numbers script.steps) m what) kept.moment (subst (λ (next : NextNumbers). StepFits serving script.config.libraries next said.moment what) kept.next fits) in
     record {
       config = kept.config;
-      steps = fit-push serving script.config.libraries 0 0 script.steps what kept.steps behind;
+      steps = fit-push serving script.config.libraries first_numbers 0 script.steps what kept.steps behind;
       session_lines = kept.session_lines;
       step_lines = omega (arith, kept.step_lines, length_push script.step_lines n, length_push script.steps what);
       in_order = subst (AllPairs (λ (a b : ℕ). a < b)) (sym numbers) (more-in_order n _ kept.below kept.in_order);
-      connects = ap (connects_with what) kept.connects ∙ sym (connects_behind-push 0 script.steps what);
-      few = few-step serving script.config.libraries said.connects said.moment what kept.few fits;
+      next = ap (numbers_with what) kept.next ∙ sym (numbers_behind-push first_numbers script.steps what);
+      few = few-step serving script.config.libraries said.next said.moment what kept.few fits;
       moment = ap (moment_with what) kept.moment ∙ sym (moment_behind-push 0 script.steps what);
       below = subst (All (λ m. m < suc n)) (sym numbers) (more-below n _ kept.below);
     }
@@ -207,7 +213,7 @@ kept_line serving n said line.Blank kept fits =
       session_lines = kept.session_lines;
       step_lines = kept.step_lines;
       in_order = kept.in_order;
-      connects = kept.connects;
+      next = kept.next;
       few = kept.few;
       moment = kept.moment;
       below = later-below n _ kept.below;
@@ -229,8 +235,8 @@ lawful-said true n said kept =
     }
 lawful-said false n said kept =
     record {
-      config = so_far-lawful _ (replay_with-so_far said.connects said.script.config kept.few kept.config);
-      replays = λ _. record { connections = kept.connects ∙ connects_behind-count 0 said.script.steps ∙ omega arith; dials = refl };
+      config = so_far-lawful _ (replay_with-so_far said.next.connect said.script.config kept.few kept.config);
+      replays = λ _. record { connections = ap (λ (next : NextNumbers). next.connect) kept.next ∙ connects-count first_numbers said.script.steps ∙ omega arith; dials = refl };
       steps = kept.steps;
       session_lines = kept.session_lines;
       step_lines = kept.step_lines;

@@ -8,6 +8,7 @@ pub mod LentNames
 pub mod LineCuts
 pub mod LineFacts
 pub mod Meanings
+pub mod NameTexts
 pub mod Naturals
 pub mod PartFacts
 pub mod PrintedTexts

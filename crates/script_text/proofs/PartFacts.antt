@@ -10,13 +10,17 @@ use Rattle.fix_fields.specs.Laws.{MomentsHaveABound}
 use Rattle.fix_fields.specs.Stamp.{moment_of}
 use Rattle.fix_frame.specs.Frame.{IsBody, frame_of}
 use Rattle.gate_io.specs.declared.clocks.TheConstants.{LAST_MOMENT}
-use Rattle.script_text.specs.Args.{body_at, ends, is_body_text, is_framed, later, moment_at, name_at, number_at, number_below, number_line, number_within, text_at, word_at}
-use Rattle.script_text.specs.Grammar.{same_names}
+use Rattle.gate_io.specs.declared.wires.TheConstants.{FIRST_DIALLED}
+use Rattle.script_text.specs.Args.{body_at, ends, is_body_text, is_framed, later, moment_at, name_at, number_at, number_line, number_within, text_at, word_at}
+use Rattle.script_text.specs.Grammar.{connection_at, same_names}
 use Rattle.script_text.specs.Kinds.{◌>>=◌, as_part, both, demand}
+use Rattle.script_text.specs.Lawful.{IsMade}
+use Rattle.script_text.specs.SoFar.{is_made}
 use Rattle.script_text.specs.Words.{is_name}
 use Rattle.session_core.specs.declared.names.Names.{Names}
 use Rattle.script_text.specs.declared.kinds.ScriptKind.{ScriptKind}
 use Rattle.script_text.specs.declared.kinds.ScriptKind.TheVariants.{BadNumber, BadText, OutOfRange}
+use Rattle.script_text.specs.declared.numbers.NextNumbers.{NextNumbers}
 use Rattle.script_text.proofs.Bodies.{IsBody-from_text}
 
 abbrev pub Args : Type 0
@@ -70,13 +74,18 @@ pub number_line-ok : (low high : ℕ) (args : Args) (n : ℕ) → number_line lo
 unfolding number_line
 number_line-ok low high args n e = number_within-ok low high args n (ends-ok (later args) _ n e)
 
-pub number_below-ok : (limit : ℕ) (args : Args) (n : ℕ) → number_below limit args ≡ Ok n → n < limit
-unfolding number_below
-number_below-ok limit args n e =
-    let found = bind-ok (number_at args) _ n e in
-    let held = unless-ok (nat_lt found.0 limit) OutOfRange found.0 n found.2 in
-    let below : found.0 < limit = grind (arith, nat_tests, held.0) in
-    omega (arith, held.1)
+made-comes : (next : NextNumbers) (c : ℕ) → is_made next c ≡ true → c < FIRST_DIALLED → c < next.connect
+made-comes next c made low = grind (arith, nat_tests)
+
+made-dialled : (next : NextNumbers) (c : ℕ) → is_made next c ≡ true → FIRST_DIALLED ≤ c → c < next.take
+made-dialled next c made high = grind (arith, nat_tests)
+
+pub connection_at-ok : (next : NextNumbers) (args : Args) (c : ℕ) → connection_at next args ≡ Ok c → IsMade next c
+unfolding connection_at
+connection_at-ok next args c e =
+    let found = bind-ok (number_at args) _ c e in
+    let held = unless-ok (is_made next found.0) OutOfRange found.0 c found.2 in
+    subst (IsMade next) held.1 (record { comes = made-comes next found.0 held.0; dialled = made-dialled next found.0 held.0 })
 
 pub name_at-ok : (args : Args) (word : List ℕ) → name_at args ≡ Ok word → is_name word ≡ true
 unfolding name_at

@@ -1,5 +1,5 @@
 -- What stands in a line behind its first word. What is behind a word is nothing, or what follows its space.
-use Rattle.std.specs.Prelude.{ℕ, Bool, false, ◌&&◌, ◌==◌, nat_le, nat_lt, if◌then◌else◌, List, [], ◌∷◌, length, take, drop, Option, Some, None, Result, Ok, Err, codes, is_none}
+use Rattle.std.specs.Prelude.{ℕ, Bool, false, ◌&&◌, ◌==◌, nat_le, if◌then◌else◌, List, [], ◌∷◌, length, take, drop, Option, Some, None, Result, Ok, Err, codes, is_none}
 use Rattle.std.specs.Borrow.{Bor}
 use Rattle.std.specs.Option.{option_map, option_and_then, ok_or}
 use Rattle.std.specs.Str.{bytes_eq}
@@ -54,10 +54,6 @@ number_within low high args =
 -- a number in a range, with which the line ends
 unfoldable pub number_line : ℕ → ℕ → Option (List ℕ) → Result ℕ ScriptKind
 number_line low high args = ends (later args) (number_within low high args)
-
--- a number below a limit
-unfoldable pub number_below : ℕ → Option (List ℕ) → Result ℕ ScriptKind
-number_below limit args = number_at args >>= λ n. if nat_lt n limit then Ok n else Err OutOfRange
 
 -- the next word, as the moment of a timestamp
 unfoldable pub moment_at : Option (List ℕ) → Result ℕ ScriptKind

@@ -28,9 +28,11 @@ behind_word (b ∷ bytes) = if b == 32 then Some bytes else behind_word bytes
 unfoldable pub config_word_of : List ℕ → Option ConfigWord
 config_word_of word =
     if bytes_eq word (codes "session") then Some config_word.Session
+    else (if bytes_eq word (codes "dial") then Some config_word.Dial
     else (if bytes_eq word (codes "libraries") then Some config_word.Libraries
     else (if bytes_eq word (codes "connections") then Some config_word.Connections
-    else (if bytes_eq word (codes "option") then Some config_word.Limit else None)))
+    else (if bytes_eq word (codes "dials") then Some config_word.Dials
+    else (if bytes_eq word (codes "option") then Some config_word.Limit else None)))))
 
 unfoldable pub limit_word_of : List ℕ → Option LimitWord
 limit_word_of word =
@@ -45,6 +47,7 @@ unfoldable pub event_word_of : List ℕ → Option EventWord
 event_word_of word =
     if bytes_eq word (codes "at") then Some event_word.At
     else (if bytes_eq word (codes "connect") then Some event_word.Connect
+    else (if bytes_eq word (codes "take") then Some event_word.Take
     else (if bytes_eq word (codes "bytes") then Some event_word.Bytes
     else (if bytes_eq word (codes "frame") then Some event_word.Frame
     else (if bytes_eq word (codes "finish") then Some event_word.Finish
@@ -52,7 +55,7 @@ event_word_of word =
     else (if bytes_eq word (codes "failwrite") then Some event_word.FailWrite
     else (if bytes_eq word (codes "block") then Some event_word.Block
     else (if bytes_eq word (codes "unblock") then Some event_word.Unblock
-    else (if bytes_eq word (codes "turn") then Some event_word.Turn else None)))))))))
+    else (if bytes_eq word (codes "turn") then Some event_word.Turn else None))))))))))
 
 unfoldable pub lib_word_of : List ℕ → Option LibWord
 lib_word_of word =

@@ -1,10 +1,12 @@
 //! What stands in a line behind its first word.
 
-ghost use Rattle.std.specs.Prelude.{◌≡◌, ◌≤◌, IfOk};
-ghost use Rattle.script_text.specs.Args.{body_at, ends, is_framed, keyword_at, later, lent_args, lent_word, moment_at, name_at, number_at, number_below, number_line, number_within, text_at, word_at};
-ghost use Rattle.script_text.specs.Grammar.{session_at};
+ghost use Rattle.std.specs.Prelude.{◌≡◌, ◌≤◌, true, IfOk};
+ghost use Rattle.script_text.specs.Args.{body_at, ends, is_framed, keyword_at, later, lent_args, lent_word, moment_at, name_at, number_at, number_line, number_within, text_at, word_at};
+ghost use Rattle.script_text.specs.Grammar.{connection_at, session_at};
+ghost use Rattle.script_text.specs.Words.{is_name};
 
 use crate::kinds::ScriptKind;
+use crate::numbers::NextNumbers;
 use crate::parts::{Part, demand};
 use crate::printed::read_text;
 use crate::words::{is_name, read_natural, split_word};
@@ -78,7 +80,7 @@ impl<'a> Args<'a> {
 
     /// A number in a range.
     #[tactic(auto, unfolding(crate::specs::Args::number_within))]
-    fn number_within(&mut self, low: u64, high: u64) -> Part<u64>
+    pub(crate) fn number_within(&mut self, low: u64, high: u64) -> Part<u64>
         ensures value { result ≡ number_within low high self.old }
         ensures rest { self.new ≡ later self.old }
         ensures bound { IfOk result (λ n. n ≤ high) }
@@ -92,7 +94,7 @@ impl<'a> Args<'a> {
     }
 
     /// A number of 32 bits in a range.
-    fn number_u32(&mut self, low: u32, high: u32) -> Part<u32>
+    pub(crate) fn number_u32(&mut self, low: u32, high: u32) -> Part<u32>
         ensures value { result ≡ number_within low high self.old }
         ensures rest { self.new ≡ later self.old }
     {
@@ -146,15 +148,15 @@ impl<'a> Args<'a> {
         Ok(n as u16)
     }
 
-    /// The number of one of so many connections.
-    #[tactic(auto, unfolding(crate::specs::Args::number_below))]
-    pub(crate) fn connection(&mut self, connects: u32) -> Part<u32>
-        ensures value { result ≡ number_below connects self.old }
+    /// The number of a connection that is made.
+    #[tactic(auto, unfolding(crate::specs::Grammar::connection_at))]
+    pub(crate) fn connection(&mut self, next: NextNumbers) -> Part<u32>
+        ensures value { result ≡ connection_at next self.old }
         ensures rest { self.new ≡ later self.old }
     {
-        let n = self.number()?;
-        if n < connects as u64 {
-            Ok(n as u32)
+        let c = self.number()?;
+        if next.has(c) {
+            Ok(c as u32)
         } else {
             Err(ScriptKind::OutOfRange)
         }
@@ -175,6 +177,7 @@ impl<'a> Args<'a> {
     pub(crate) fn name(&mut self) -> Part<&'a [u8]>
         ensures value { lent_word result ≡ name_at self.old }
         ensures rest { self.new ≡ later self.old }
+        ensures name { IfOk result (λ word. is_name word.now ≡ true) }
     {
         let word = self.word()?;
         if is_name(word) {

@@ -1,8 +1,9 @@
 //! The lines of the configuration.
 
-ghost use Rattle.std.specs.Prelude.{◌≡◌, IfOk};
+ghost use Rattle.std.specs.Prelude.{◌≡◌, IfOk, OnOk};
 ghost use Rattle.std.specs.List.{list_any};
-ghost use Rattle.script_text.specs.Grammar.{config_line, limit_line, names_line, option_line, same_names, session_line};
+ghost use Rattle.script_text.specs.Args.{later, name_at};
+ghost use Rattle.script_text.specs.Grammar.{config_line, dial_line, dial_to_at, limit_line, names_at, new_names_at, one_more, option_line, same_names, session_line};
 ghost use Rattle.script_text.specs.Lent.{lent_names, names_of};
 
 use crate::args::Args;
@@ -11,11 +12,11 @@ use crate::limits::MOST_COUNT;
 use crate::lines::{ConfigWord, LimitWord, Setting};
 use crate::parts::{Part, both, demand};
 use crate::words::limit_word_of;
-use engine_config::{MOST_HOLD, MOST_TIMEOUT};
-use gate_io::{Bytes, MOST_CONNECTIONS, NoMemory};
+use engine_config::{DialTo, MOST_HOLD, MOST_TIMEOUT, MOST_WAIT};
+use gate_io::{Bytes, Label, MOST_CONNECTIONS, MOST_DIALLED, NoMemory};
 use lease_core::{MOST_LEASES, MOST_LIBRARIES};
 use lease_words::LANE_SLOTS;
-use session_core::{MOST_SESSIONS, Names};
+use session_core::{LONGEST_HEARTBEAT, MOST_SESSIONS, Names};
 use std::alloc::Global;
 
 /// What a line of the configuration sets, wherever it stands, behind its first word. `before` has
@@ -32,10 +33,15 @@ pub(crate) fn read_config_line(
 {
     match word {
         ConfigWord::Session => read_session_line(alloc, before, args),
+        ConfigWord::Dial => read_dial_line(alloc, before, args),
         ConfigWord::Libraries => Ok(args.last_u8(0, MOST_LIBRARIES).map(Setting::Libraries)),
         ConfigWord::Connections => {
-            let line = args.last_u32(0, MOST_CONNECTIONS).map(Setting::Connections);
-            Ok(demand(serving, ScriptKind::Misplaced, line))
+            let connections = args.last_u32(0, MOST_CONNECTIONS).map(Setting::Connections);
+            Ok(demand(serving, ScriptKind::Misplaced, connections))
+        }
+        ConfigWord::Dials => {
+            let dials = args.last_u32(0, MOST_DIALLED).map(Setting::Dials);
+            Ok(demand(serving, ScriptKind::Misplaced, dials))
         }
         ConfigWord::Limit => Ok(read_option_line(args)),
     }
@@ -46,30 +52,96 @@ pub(crate) fn read_config_line(
 fn read_session_line(
     alloc: Global,
     before: &[Names],
-    args: Args<'_>,
+    mut args: Args<'_>,
 ) -> Result<Part<Setting>, NoMemory>
     ensures { IfOk result (λ part. part ≡ session_line before.now args.entry) }
 {
-    let line = match read_names(args) {
-        Ok((us, them)) if has_names(before, us, them) => Err(ScriptKind::OutOfRange),
-        Ok((us, them)) => Ok(Setting::Session(Names {
+    let names = read_new_names(alloc, before, &mut args)?;
+    let line = args.end(names.map(|names| Setting::Session(names, None)));
+    Ok(one_more(before, line))
+}
+
+/// What follows `dial`.
+#[tactic(auto, unfolding(crate::specs::Grammar::dial_line))]
+fn read_dial_line(
+    alloc: Global,
+    before: &[Names],
+    mut args: Args<'_>,
+) -> Result<Part<Setting>, NoMemory>
+    ensures { IfOk result (λ part. part ≡ dial_line before.now args.entry) }
+{
+    let session = read_new_names(alloc, before, &mut args)?;
+    let to = read_dial_to(alloc, &mut args)?;
+    let line = args.end(both(session, to).map(|(names, to)| Setting::Session(names, Some(to))));
+    Ok(one_more(before, line))
+}
+
+/// One more session, where those before it aren't the most yet.
+fn one_more(before: &[Names], line: Part<Setting>) -> Part<Setting>
+    ensures { result ≡ one_more before.now line }
+{
+    let more = before.len() < MOST_SESSIONS;
+    demand(more, ScriptKind::OutOfRange, line)
+}
+
+/// Two words that are the names of no session before.
+#[tactic(auto, unfolding(crate::specs::Grammar::new_names_at))]
+fn read_new_names(
+    alloc: Global,
+    before: &[Names],
+    args: &mut Args<'_>,
+) -> Result<Part<Names>, NoMemory>
+    ensures value { IfOk result (λ part. part ≡ new_names_at before.now args.old) }
+    ensures rest { OnOk result (args.new ≡ later (later args.old)) }
+{
+    match read_names(args) {
+        Ok((us, them)) if has_names(before, us, them) => Ok(Err(ScriptKind::OutOfRange)),
+        Ok((us, them)) => Ok(Ok(Names {
             us: Bytes::of(Vec::from_slice(alloc, us)?),
             them: Bytes::of(Vec::from_slice(alloc, them)?),
         })),
-        Err(kind) => Err(kind),
-    };
-    let more = before.len() < MOST_SESSIONS;
-    Ok(demand(more, ScriptKind::OutOfRange, line))
+        Err(kind) => Ok(Err(kind)),
+    }
 }
 
-/// Two words that are names, with which the line ends.
-#[tactic(auto, unfolding(crate::specs::Grammar::names_line))]
-fn read_names<'a>(mut args: Args<'a>) -> Part<(&'a [u8], &'a [u8])>
-    ensures { lent_names result ≡ names_line args.entry }
+/// Two words that are names.
+#[tactic(auto, unfolding(crate::specs::Grammar::names_at))]
+fn read_names<'a>(args: &mut Args<'a>) -> Part<(&'a [u8], &'a [u8])>
+    ensures value { lent_names result ≡ names_at args.old }
+    ensures rest { args.new ≡ later (later args.old) }
 {
     let us = args.name();
     let them = args.name();
-    args.end(both(us, them))
+    both(us, them)
+}
+
+/// `ADDRESS HEART WAIT`.
+#[tactic(auto, unfolding(crate::specs::Grammar::dial_to_at))]
+fn read_dial_to(alloc: Global, args: &mut Args<'_>) -> Result<Part<DialTo>, NoMemory>
+    ensures value { IfOk result (λ part. part ≡ dial_to_at args.old) }
+    ensures rest { OnOk result (args.new ≡ later (later (later args.old))) }
+{
+    let address = read_label(alloc, args)?;
+    let heart = args.number_u32(1, LONGEST_HEARTBEAT);
+    let wait = args.number_within(1, MOST_WAIT);
+    let to = both(address, both(heart, wait)).map(|(address, (heart, wait))| DialTo {
+        address,
+        heart,
+        wait,
+    });
+    Ok(to)
+}
+
+/// A word that is a name, as a text.
+#[tactic(auto, using(crate::proofs::NameTexts::is_name_utf8))]
+fn read_label(alloc: Global, args: &mut Args<'_>) -> Result<Part<Label>, NoMemory>
+    ensures value { IfOk result (λ part. part ≡ name_at args.old) }
+    ensures rest { OnOk result (args.new ≡ later args.old) }
+{
+    match args.name() {
+        Ok(word) => Ok(Ok(Label::of(String::from_utf8_lossy(alloc, word)?))),
+        Err(kind) => Ok(Err(kind)),
+    }
 }
 
 /// Whether a session has these names.

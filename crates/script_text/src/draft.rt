@@ -1,11 +1,13 @@
 //! What the lines read so far say.
 
-ghost use Rattle.std.specs.Prelude.{◌≡◌, ◌<◌, ◌≤◌, OnOk};
+ghost use Rattle.std.specs.Prelude.{◌≡◌, ◌≤◌, ◌+◌, OnOk};
 ghost use Rattle.script_text.specs.Grammar.{no_steps};
-ghost use Rattle.script_text.specs.SoFar.{no_lines, said_with, script_said, setting_with, step_with};
+ghost use Rattle.script_text.specs.SoFar.{no_lines, said_with, script_said, setting_with, step_with, MadeBefore};
 
 use crate::limits::{MOST_COUNT, USUAL_HOLD, USUAL_TIMEOUT};
 use crate::lines::{Line, Setting};
+use crate::numbers::NextNumbers;
+use crate::reading::LONGEST_SCRIPT;
 use crate::steps::{Script, Step};
 use engine_config::{Config, DialTo};
 use gate_io::{MOST_DIALLED, NoMemory, Rows};
@@ -24,7 +26,7 @@ pub(crate) struct Draft {
     limits: Limits,
     steps: Vec<Step>,
     step_lines: Vec<u32>,
-    connects: u32,
+    next: NextNumbers,
     moment: u64,
 }
 
@@ -91,7 +93,7 @@ impl Model for Draft {
         session_lines = d.session_lines.items;
         step_lines = d.step_lines.items;
       };
-      connects = d.connects;
+      next = d.next;
       moment = d.moment;
     } };
 }
@@ -108,7 +110,7 @@ impl Draft {
             limits: NO_LINE,
             steps: Vec::new(alloc),
             step_lines: Vec::new(alloc),
-            connects: 0,
+            next: NextNumbers::new(),
             moment: 0,
         }
     }
@@ -132,11 +134,11 @@ impl Draft {
         self.steps.is_empty()
     }
 
-    /// The number of connections.
-    pub(crate) fn connects(&self) -> u32
-        ensures { result ≡ (self.now).connects }
+    /// The numbers of the next connections.
+    pub(crate) fn next(&self) -> NextNumbers
+        ensures { result ≡ (self.now).next }
     {
-        self.connects
+        self.next
     }
 
     /// The present moment.
@@ -149,9 +151,10 @@ impl Draft {
     /// Adds what the line with this number says.
     #[tactic(auto, unfolding(crate::specs::SoFar::said_with))]
     pub(crate) fn put(&mut self, number: u32, line: Line) -> Result<(), NoMemory>
-        requires { (self.old).connects < number }
+        requires number { number ≤ LONGEST_SCRIPT }
+        requires made { MadeBefore number (self.old).next }
         ensures said { OnOk result (self.new ≡ said_with number line self.old) }
-        ensures connects { (self.new).connects ≤ number }
+        ensures made { MadeBefore (number + 1) (self.new).next }
     {
         match line {
             Line::Blank => Ok(()),
@@ -163,16 +166,17 @@ impl Draft {
     /// Adds what a line of the configuration sets.
     fn set(&mut self, number: u32, setting: Setting) -> Result<(), NoMemory>
         ensures said { OnOk result (self.new ≡ setting_with number setting self.old) }
-        ensures connects { (self.new).connects ≡ (self.old).connects }
+        ensures next { (self.new).next ≡ (self.old).next }
     {
         match setting {
-            Setting::Session(names) => {
+            Setting::Session(names, to) => {
                 self.names.push(names)?;
-                self.dialled.push(None)?;
+                self.dialled.push(to)?;
                 self.session_lines.push(number)?;
             }
             Setting::Libraries(n) => self.limits.libraries = n,
             Setting::Connections(n) => self.limits.connections = n,
+            Setting::Dials(n) => self.limits.dials = n,
             Setting::Lane(n) => self.limits.lane = n,
             Setting::Leases(n) => self.limits.leases = n,
             Setting::Sends(n) => self.limits.sends = n,
@@ -185,13 +189,15 @@ impl Draft {
 
     /// Adds a step.
     fn push(&mut self, number: u32, step: Step) -> Result<(), NoMemory>
-        requires { (self.old).connects < number }
+        requires number { number ≤ LONGEST_SCRIPT }
+        requires made { MadeBefore number (self.old).next }
         ensures said { OnOk result (self.new ≡ step_with number step self.old) }
-        ensures connects { (self.new).connects ≤ number }
+        ensures made { MadeBefore (number + 1) (self.new).next }
     {
         match &step {
             Step::At { moment } => self.moment = *moment,
-            Step::Connect => self.connects += 1,
+            Step::Connect => self.next.connect += 1,
+            Step::Take => self.next.take += 1,
             _ => {}
         }
         self.steps.push(step)?;
@@ -206,7 +212,7 @@ impl Draft {
         let limits = if serving {
             self.limits
         } else {
-            self.limits.of_replay(self.connects)
+            self.limits.of_replay(self.next.connect)
         };
         Script {
             config: Config {

@@ -13,6 +13,7 @@ pub mod laws;
 mod lib_lines;
 mod limits;
 mod lines;
+mod numbers;
 mod parts;
 mod printed;
 mod reading;

@@ -1,6 +1,7 @@
 //! What a line of a script is, before it is put to the others.
 
 use crate::steps::Step;
+use engine_config::DialTo;
 use session_core::Names;
 
 /// What a line says.
@@ -16,9 +17,11 @@ pub(crate) enum Line {
 /// What a line of the configuration sets.
 #[derive(Debug, Drop)]
 pub(crate) enum Setting {
-    Session(Names),
+    /// The next session, and to where it dials, if it does.
+    Session(Names, Option<DialTo>),
     Libraries(u8),
     Connections(u32),
+    Dials(u32),
     Lane(u8),
     Leases(u32),
     Sends(u32),
@@ -39,8 +42,10 @@ pub(crate) enum Opening {
 #[derive(Clone, Copy, Debug)]
 pub(crate) enum ConfigWord {
     Session,
+    Dial,
     Libraries,
     Connections,
+    Dials,
     Limit,
 }
 
@@ -60,6 +65,7 @@ pub(crate) enum LimitWord {
 pub(crate) enum EventWord {
     At,
     Connect,
+    Take,
     Bytes,
     Frame,
     Finish,

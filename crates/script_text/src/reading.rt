@@ -107,7 +107,7 @@ fn read_opened_line(
             demand(draft.has_no_steps(), ScriptKind::Misplaced, line).map(Line::Config)
         }
         Opening::Replays(word) => {
-            let line = read_event_line(alloc, draft.connects(), draft.moment(), word, args)?;
+            let line = read_event_line(alloc, draft.next(), draft.moment(), word, args)?;
             demand(!serving, ScriptKind::Misplaced, line).map(Line::Step)
         }
         Opening::Library => {

@@ -10,6 +10,8 @@ pub enum Step {
     At { moment: u64 },
     /// The next connection waits to be accepted.
     Connect,
+    /// One more dial succeeds: its connection, the next from gate_io's `FIRST_DIALLED` on, is made.
+    Take,
     /// These bytes can be read from connection `c`.
     Bytes { c: u32, bytes: Bytes },
     /// The frame of this body can be read from connection `c`.

@@ -48,10 +48,14 @@ fn config_word_of(word: &[u8]) -> Option<ConfigWord>
 {
     if word == b"session".as_slice() {
         Some(ConfigWord::Session)
+    } else if word == b"dial".as_slice() {
+        Some(ConfigWord::Dial)
     } else if word == b"libraries".as_slice() {
         Some(ConfigWord::Libraries)
     } else if word == b"connections".as_slice() {
         Some(ConfigWord::Connections)
+    } else if word == b"dials".as_slice() {
+        Some(ConfigWord::Dials)
     } else if word == b"option".as_slice() {
         Some(ConfigWord::Limit)
     } else {
@@ -89,6 +93,8 @@ fn event_word_of(word: &[u8]) -> Option<EventWord>
         Some(EventWord::At)
     } else if word == b"connect".as_slice() {
         Some(EventWord::Connect)
+    } else if word == b"take".as_slice() {
+        Some(EventWord::Take)
     } else if word == b"bytes".as_slice() {
         Some(EventWord::Bytes)
     } else if word == b"frame".as_slice() {

@@ -13,7 +13,7 @@ loop-rest-preserved c =
     record {
       meaning = reading_line _ _ _ _ _ _ _ _ _ c.split_line.ensures.lines (sym c.in-Ok.is ∙ c.in_ok-line.ensures) c.in_ok-put-in-Ok.ensures.said c.loop-rest.invariant.meaning;
       count = omega (arith, c.split_line.ensures.shorter, c.loop-rest.invariant.count);
-      connects = omega (arith, c.in_ok-put-in-Ok.ensures.connects);
+      made = c.in_ok-put-in-Ok.ensures.made;
     }
 
 pub returns-clause-ok : goal.returns-clause-ok

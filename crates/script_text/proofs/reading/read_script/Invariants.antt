@@ -1,5 +1,6 @@
-use Rattle.std.proofs.Common.{◌≡◌, ◌+◌, ◌<◌, ◌≤◌, length}
+use Rattle.std.proofs.Common.{◌≡◌, ◌+◌, ◌≤◌, length}
 use Rattle.script_text.specs.Meaning.{lines_of, script_from, script_of}
+use Rattle.script_text.specs.SoFar.{MadeBefore}
 use Rattle.script_text.proofs.reading.read_script.Given as goal
 
 -- what the rest says behind the lines so far is what the text says
@@ -8,7 +9,7 @@ invariant-loop-rest l =
     record {
       meaning : script_from l.serving l.number l.draft (lines_of l.rest) ≡ script_of l.serving l.text;
       count : l.number + length l.rest ≤ 16_777_217;
-      connects : l.draft.connects < l.number;
+      made : MadeBefore l.number l.draft.next;
     }
 
 abbrev pub decreases-loop-rest : goal.decreases-loop-rest
