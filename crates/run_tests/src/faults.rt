@@ -34,7 +34,7 @@ fn first_faulty_lines(rt: HostRuntime) -> Result<(), Fail> {
 #[test]
 fn first_lines_that_are_not_built(rt: HostRuntime) -> Result<(), Fail> {
     let alloc = rt.alloc();
-    let cases: [(&[u8], u32); 9] = [
+    let cases: [(&[u8], u32); 14] = [
         (
             b"session GATE BUYER\n\nsession GATE DESK\nconnect\nconnect\n",
             3,
@@ -45,6 +45,17 @@ fn first_lines_that_are_not_built(rt: HostRuntime) -> Result<(), Fail> {
         (b"connect\nturn\nfailread 0\n", 3),
         (b"connect\nblock 0 10\n", 2),
         (b"libraries 1\nlib 1 poll\n", 2),
+        (b"dial GATE HUB hub:1 30 1000\nconnect\nconnect\n", 1),
+        (
+            b"libraries 1\nsession GATE BUYER\ndial GATE HUB hub:1 30 1000\n",
+            3,
+        ),
+        (
+            b"# dials\ndial GATE HUB hub:1 30 1000\nsession GATE BUYER\n",
+            2,
+        ),
+        (b"session GATE BUYER\ntake\n", 2),
+        (b"turn\ntake\nfinish 1024\n", 2),
         // There is no session for the Logon.
         (
             b"connect\nframe 0 35=A|49=BUYER|56=GATE|34=1|98=0|108=30|\n",
