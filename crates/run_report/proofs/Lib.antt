@@ -1,0 +1,3 @@
+-- Lemmas.
+pub mod Numbered
+pub mod Sums

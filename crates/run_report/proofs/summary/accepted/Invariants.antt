@@ -1,0 +1,6 @@
+use Rattle.std.proofs.Common.{◌≡◌, take}
+use Rattle.run_report.specs.Summary.{accepted_in, told_sum}
+use Rattle.run_report.proofs.summary.accepted.Given as goal
+
+abbrev pub invariant-loop-session : goal.invariant-loop-session
+invariant-loop-session l = l.sum ≡ told_sum accepted_in (take l.session-index l.sessions)

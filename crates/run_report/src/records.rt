@@ -1,0 +1,27 @@
+//! What a run leaves.
+use crate::calls::Call;
+use engine_end::EngineRecord;
+use gate_io::Rows;
+use library_api::Waited;
+
+/// What a run leaves of a library.
+#[derive(Debug, Drop)]
+pub struct LibReport {
+    pub number: u8,
+    /// Its calls in order, but for those that were made again.
+    pub calls: Rows<Call>,
+    /// How many messages its polls gave.
+    pub reads: u64,
+    /// Whether it carried out its whole plan.
+    pub finished: bool,
+    /// How long it had waited at the end.
+    pub waited: Waited,
+}
+
+/// What a run leaves.
+#[derive(Debug, Drop)]
+pub struct RunRecord {
+    pub engine: EngineRecord,
+    /// The libraries, in the order of their numbers.
+    pub libraries: Rows<LibReport>,
+}
