@@ -3,9 +3,12 @@ use Rattle.std.specs.Prelude.{◌≡◌, ℕ, zero, suc, ◌<◌, ◌⊎◌, Lis
 use Rattle.engine_end.specs.Records.{IsLeftBy}
 use Rattle.engine_end.specs.declared.records.EngineRecord.{EngineRecord}
 use Rattle.lease_core.specs.declared.record.Record.{Record}
-use Rattle.lease_desk.specs.Desk.{Gathers, InTurn, Rests}
+use Rattle.lease_desk.specs.Desk.{AllAgree, Gathers, InTurn, Rests}
 use Rattle.lease_desk.specs.declared.desk.LeaseDesk.{LeaseDesk}
-use Rattle.lease_words.specs.Views.{LibraryView}
+use Rattle.lease_words.specs.Facts.{OthersTaken}
+use Rattle.lease_words.specs.Leases.{Each}
+use Rattle.lease_words.specs.Tells.{IsSettled}
+use Rattle.lease_words.specs.Views.{LibraryView, engine_at}
 use Rattle.lease_words.specs.declared.view.LibraryKnows.{LibraryKnows}
 use Rattle.library_desk.specs.declared.desk.LibraryDesk.{LibraryDesk}
 use Rattle.session_book.specs.Records.{Pending, after_note, new_records}
@@ -44,16 +47,24 @@ records_of board unkept (suc s) = records_of board unkept s ++ records_at board 
 abbrev pub all_records : Board → List Pending → List Record
 all_records board unkept = records_of board unkept (length board.sessions)
 
--- Each session is gathered, and what sessions and connections then leave is handed out, with the records of the new entries.
+-- Of a session the engine's seat has all that each library did of it whose seat was taken in, and of the others than the last lease's all was taken.
+pub record HasAllOf (desk : LeaseDesk) (s : ℕ) : Type 0 where
+  pub settled : Each (IsSettled s (engine_at desk.seat s)) desk.seat.settled
+  pub others : OthersTaken desk.seat.table.shape.libraries (engine_at desk.seat s)
+
+-- Each session is gathered: its journal tells all that the libraries did. What sessions and connections then leave is handed out, with the records of the new entries.
 pub record FinishesFrom (unkept : List Pending) (accepted at until : ℕ) (old : LibraryDesk) (left : EngineRecord) : Type 0 where
   pub gathered : LeaseDesk
   pub gathers : GathersAll at until old.desk gathered
+  pub agree : AllAgree gathered.board gathered.seat
+  pub settled : (s : ℕ) → s < length old.desk.board.sessions → HasAllOf gathered s
   pub leaves : IsLeftBy gathered.board old.strays.items accepted (all_records gathered.board unkept) left
 
 -- Where memory is wanting, no session is gathered, or some are, or all, and there is no record of a new entry.
 pub record FinishesShortFrom (accepted at until : ℕ) (old : LibraryDesk) (left : EngineRecord) : Type 0 where
   pub gathered : LeaseDesk
   pub gathers : (gathered ≡ old.desk) ⊎ (GathersAll at until old.desk gathered ⊎ GathersSome at until old.desk gathered)
+  pub agree : AllAgree gathered.board gathered.seat
   pub leaves : IsLeftBy gathered.board old.strays.items accepted [] left
 
 -- the libraries' seats are taken in before

@@ -1,10 +1,11 @@
 //! A run ends.
 
-ghost use Rattle.std.specs.Prelude.{◌≡◌, ◌≤◌, ◌⊎◌, [], length, IfErr, IfOk, OnErr, OnOk};
+ghost use Rattle.std.specs.Prelude.{◌≡◌, ◌<◌, ◌≤◌, ◌⊎◌, ℕ, [], length, IfErr, IfOk, OnErr, OnOk};
 ghost use Rattle.std.specs.List.{All};
-ghost use Rattle.engine_end.specs.Finishing.{Finishes, FinishesFrom, FinishesShort, FinishesShortFrom, GathersAll, GathersSome, all_records};
+ghost use Rattle.engine_end.specs.Finishing.{Finishes, FinishesFrom, FinishesShort, FinishesShortFrom, GathersAll, GathersSome, HasAllOf, all_records};
 ghost use Rattle.engine_end.specs.Records.{HasLawfulJournal, IsLeftBy};
 ghost use Rattle.engine_end.specs.Room.{HasRoomFor};
+ghost use Rattle.lease_desk.specs.Desk.{AllAgree};
 ghost use Rattle.lease_words.specs.Views.{LibraryView};
 ghost use Rattle.library_desk.specs.Serving.{IsLinked};
 ghost use Rattle.session_desk.specs.Steps.{AreNoted, IsSteady};
@@ -45,11 +46,12 @@ pub fn finish(
 ) -> Result<EngineRecord, (NoMemory, EngineRecord)>
     requires linked { IsLinked shared.now desk }
     requires seats { All (λ (seat : LibraryView). seat.table ≡ shared.now.leases) seats.items }
+    requires room { HasRoomFor desk.desk.board spare }
     requires moment { at ≤ LAST_MOMENT }
     requires steady { IsSteady desk.desk.board desk.desk.seat }
     requires noted { AreNoted unkept.items desk.desk.board }
     ensures finishes { IfOk result (Finishes seats.items unkept.items accepted at until desk) }
-    ensures finishes_short { IfErr result (λ e. HasRoomFor desk.desk.board spare → FinishesShort seats.items accepted at until desk e.1) }
+    ensures finishes_short { IfErr result (λ e. FinishesShort seats.items accepted at until desk e.1) }
     ensures journals { IfOk result (λ left. All HasLawfulJournal left.sessions) }
     ensures journals_short { IfErr result (λ e. All HasLawfulJournal e.1.sessions) }
 {
@@ -63,7 +65,8 @@ pub fn finish(
 /// What sessions and connections leave as they stand. Where there is no memory for that, `spare` has the
 /// room for it.
 pub fn leave(alloc: Global, spare: RecordRoom, desk: LibraryDesk, accepted: u32) -> EngineRecord
-    ensures left { HasRoomFor desk.desk.board spare → IsLeftBy desk.desk.board desk.strays.items accepted [] result }
+    requires room { HasRoomFor desk.desk.board spare }
+    ensures left { IsLeftBy desk.desk.board desk.strays.items accepted [] result }
     ensures journals { All HasLawfulJournal result.sessions }
 {
     match room_for(alloc, &desk.desk.board) {
@@ -133,6 +136,8 @@ fn gather_records(
     ensures gathers { OnOk result (GathersAll at until desk.old desk.new) }
     ensures stops { OnErr result (GathersAll at until desk.old desk.new ⊎ GathersSome at until desk.old desk.new) }
     ensures added { IfOk result (λ added. added.items ≡ all_records desk.new.board unkept.old.items) }
+    ensures settled { OnOk result ((s : ℕ) → s < length desk.old.board.sessions → HasAllOf desk.new s) }
+    ensures agree { AllAgree desk.new.board desk.new.seat }
     ensures sessions { length desk.new.board.sessions ≡ length desk.old.board.sessions }
     ensures connections { length desk.new.board.connections ≡ length desk.old.board.connections }
 {

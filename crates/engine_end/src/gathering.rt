@@ -1,7 +1,7 @@
 //! Each session is gathered once more.
 
-ghost use Rattle.std.specs.Prelude.{◌≡◌, ◌<◌, ◌≤◌, length, OnErr, OnOk};
-ghost use Rattle.engine_end.specs.Finishing.{GathersAll, GathersSome};
+ghost use Rattle.std.specs.Prelude.{◌≡◌, ◌≢◌, ◌<◌, ◌≤◌, ℕ, length, OnErr, OnOk};
+ghost use Rattle.engine_end.specs.Finishing.{GathersAll, GathersSome, HasAllOf};
 ghost use Rattle.lease_desk.specs.Desk.{Gathers, Rests};
 ghost use Rattle.session_desk.specs.Steps.{IsSteady};
 ghost use Rattle.switchboard.specs.Going.{GoesOnTo};
@@ -30,6 +30,7 @@ pub(crate) fn gather_all(
     requires steady { IsSteady desk.old.board desk.old.seat }
     ensures gathers { OnOk result (GathersAll at until desk.old desk.new) }
     ensures stops { OnErr result (GathersSome at until desk.old desk.new) }
+    ensures settled { OnOk result ((s : ℕ) → s < length desk.old.board.sessions → HasAllOf desk.new s) }
     ensures steady { IsSteady desk.new.board desk.new.seat }
     ensures goes_on { GoesOnTo desk.old.board desk.new.board }
     ensures connections { length desk.new.board.connections ≡ length desk.old.board.connections }
@@ -59,6 +60,8 @@ fn gather(
     requires steady { IsSteady desk.old.board desk.old.seat }
     ensures gathers { OnOk result (Gathers s at until desk.old desk.new) }
     ensures rests { OnErr result (Rests s desk.old desk.new) }
+    ensures settled { OnOk result (HasAllOf desk.new s) }
+    ensures others { OnOk result ((t : ℕ) → t ≢ s → HasAllOf desk.old t → HasAllOf desk.new t) }
     ensures steady { IsSteady desk.new.board desk.new.seat }
     ensures goes_on { GoesOnTo desk.old.board desk.new.board }
     ensures connections { length desk.new.board.connections ≡ length desk.old.board.connections }

@@ -35,6 +35,24 @@ few_dialled (Some dial.Failed) s at until place old new d_old d_new places dials
 few_dialled (Some (dial.New number)) s at until place old new d_old d_new places dials few =
     (let one = length_push places place in let made = ap (λ (d : Dialler). d.made) dials.1.1 in omega arith)
 
+-- nor did more come than were accepted and dialled
+pub few_came : (answer : Option Dialled) (s at until accepted : ℕ) (old new : LeaseDesk) (d_old d_new : Dialler) → DialsAs answer s at until old new d_old d_new → length new.board.connections ≤ length old.board.connections + 1
+    → length old.board.connections ≤ accepted + d_old.made → length new.board.connections ≤ accepted + d_new.made
+few_came None s at until accepted old new d_old d_new dials one few = (let same = ap (λ (d : LeaseDesk). length d.board.connections) dials.1.0 in let made = ap (λ (d : Dialler). d.made) dials.1.1 in omega arith)
+few_came (Some dial.Failed) s at until accepted old new d_old d_new dials one few =
+    (let same = ap (λ (d : LeaseDesk). length d.board.connections) dials.1.0 in let made = waits_made (plan_at d_old s) s at d_old d_new dials.1.1 in omega arith)
+few_came (Some (dial.New number)) s at until accepted old new d_old d_new dials one few = (let made = ap (λ (d : Dialler). d.made) dials.1.1 in omega arith)
+
+waits_most : (plan : Option Rattle.engine_config.specs.declared.config.DialTo.DialTo) (s at : ℕ) (old new : Dialler) → WaitsBy plan s at old new → new.most ≡ old.most
+waits_most None s at old new waits = ap (λ (d : Dialler). d.most) waits
+waits_most (Some plan) s at old new waits = ap (λ (d : Dialler). d.most) waits.rest
+
+-- as many may be dialled as before
+pub most_stays : (answer : Option Dialled) (s at until : ℕ) (old new : LeaseDesk) (d_old d_new : Dialler) → DialsAs answer s at until old new d_old d_new → d_new.most ≡ d_old.most
+most_stays None s at until old new d_old d_new dials = ap (λ (d : Dialler). d.most) dials.1.1
+most_stays (Some dial.Failed) s at until old new d_old d_new dials = waits_most (plan_at d_old s) s at d_old d_new dials.1.1
+most_stays (Some (dial.New number)) s at until old new d_old d_new dials = ap (λ (d : Dialler). d.most) dials.1.1
+
 -- sessions and connections go on, whatever the wire answers
 pub goes_by : ((happening : Happening) (old new : Board) → Happens happening old new → GoesOnTo old new) → ((board : Board) → GoesOnTo board board) → (answer : Accepted) (at : ℕ) (old new : LeaseDesk)
     → AcceptsAs answer at old new → GoesOnTo old.board new.board

@@ -12,6 +12,7 @@ use Rattle.connection_core.specs.Connection.{ConnectionState}
 use Rattle.engine_config.specs.Config.{IsConfig, IsDial, dial_of, names_of}
 use Rattle.engine_config.specs.declared.config.Config.{Config}
 use Rattle.engine_config.specs.declared.config.DialTo.{DialTo}
+use Rattle.engine_end.specs.Room.{Room}
 use Rattle.engine_loop.specs.Engines.{IsAtWork, IsOnline}
 use Rattle.engine_loop.specs.Starts.{HasNoLines, StartsDials, StartsFigures, StartsRoutes, accepting_sessions}
 use Rattle.engine_loop.specs.declared.engine.Engine.{Engine}
@@ -23,6 +24,7 @@ use Rattle.gate_io.specs.Wire.{Door, Link}
 use Rattle.gate_io.specs.declared.clocks.TheConstants.{LAST_MOMENT}
 use Rattle.gate_io.specs.declared.wires.TheConstants.{MOST_DIALLED}
 use Rattle.library_desk.specs.Serving.{IsInOrder, IsLinked}
+use Rattle.library_desk.specs.declared.desk.LibraryDesk.{LibraryDesk}
 use Rattle.library_desk.specs.declared.shared.Shared.{Shared}
 use Rattle.session_book.specs.Book.{Book}
 use Rattle.session_book.specs.Records.{HasNoted, Pending}
@@ -32,7 +34,7 @@ use Rattle.session_desk.specs.declared.routes.Routes.{Routes}
 use Rattle.switchboard.specs.Board.{Board, book_at}
 use Rattle.switchboard.specs.Ready.{IsReady, entries_of}
 use Rattle.wire_desk.specs.Dials.{IsDialling, IsPlanOf, plan_at}
-use Rattle.wire_desk.specs.Lines.{IsOpenPlace}
+use Rattle.wire_desk.specs.Lines.{IsOpenPlace, IsSetUp, IsWired}
 use Rattle.wire_desk.specs.Places.{open_places}
 use Rattle.wire_desk.specs.Steps.{AreApart}
 use Rattle.wire_desk.specs.declared.dialling.Dialler.{Dialler}
@@ -145,23 +147,24 @@ noted_begin config board unkept sessions is = record {
       subst (λ (p : Pending). HasNoted p (book_at board s)) (sym nothing) (omega arith);
 }
 
-pub begins_at_work : (config : Config) (moment : ℕ) (shared : Shared) (e : Engine) → IsConfig config → moment ≤ LAST_MOMENT → IsLinked shared e.sessions → IsInOrder e.sessions
-    → AreSessionsOf config e.sessions.desk.board → IsReady (entries_of e.sessions.desk.board) e.sessions.desk.board → StartsRoutes config (length config.names) e.lines.routes
-    → AreNoted e.lines.unkept.items e.sessions.desk.board → length e.lines.buffer.items ≡ MOST_READ → StartsFigures config moment e → IsAtWork shared e
-begins_at_work config moment shared e is in_time linked in_order sessions ready routes noted buffer figures = record {
-  linked = linked;
-  in_order = in_order;
-  set_up = record {
+-- the engine has these sessions
+pub begins_at_work : (config : Config) (moment : ℕ) (shared : Shared) (e : Engine) (desk : LibraryDesk) → e.sessions ≡ desk → IsConfig config → moment ≤ LAST_MOMENT → IsLinked shared desk → IsInOrder desk
+    → AreSessionsOf config desk.desk.board → IsReady (entries_of desk.desk.board) desk.desk.board → StartsRoutes config (length config.names) e.lines.routes
+    → AreNoted e.lines.unkept.items desk.desk.board → length e.lines.buffer.items ≡ MOST_READ → StartsFigures config moment e → IsAtWork shared e
+begins_at_work config moment shared e desk same is in_time linked in_order sessions ready routes noted buffer figures = record {
+  linked = subst (IsLinked shared) (sym same) linked;
+  in_order = subst IsInOrder (sym same) in_order;
+  set_up = subst (λ (d : LibraryDesk). IsSetUp shared.leases d.desk e.lines) (sym same) (record {
     table = linked.table;
     depth = linked.depth;
     sessions = linked.sessions;
     few = linked.few;
-    routes = routes_begin config e.sessions.desk.board e.lines.routes sessions routes;
+    routes = routes_begin config desk.desk.board e.lines.routes sessions routes;
     few_routes = (let count = few_routes config e.lines.routes routes in let few = is.sessions in omega arith);
     noted = noted;
-    steady = record { run = record { before = entries_of e.sessions.desk.board; ready = ready }; in_step = in_order.in_step };
+    steady = record { run = record { before = entries_of desk.desk.board; ready = ready }; in_step = in_order.in_step };
     buffer = buffer;
-  };
+  });
   moment = subst (λ n. n ≤ LAST_MOMENT) (sym figures.moment) in_time;
   most = (let connections = figures.connections in let most = is.connections in omega arith);
   few = (let accepted = figures.accepted in omega arith);
@@ -194,21 +197,28 @@ begins_dialling config board d door is sessions dials none = record {
 }
 
 -- where no connection came or was dialled, none is on the wire
-pub begins_online : AreApart [] → (config : Config) (moment : ℕ) (e : Engine) → IsConfig config → AreSessionsOf config e.sessions.desk.board → e.sessions.desk.board.connections ≡ [] → HasNoLines e.lines → StartsDials config e.dialler → StartsFigures config moment e
-    → (door : Door) (links : ℕ → Link) → door.accepted ≡ 0 → door.dialled ≡ 0 → IsOnline e door links
-begins_online none_apart config moment e is sessions none_came lines dials figures door links none undialled =
-    let board = e.sessions.desk.board in
+pub begins_online : AreApart [] → (config : Config) (moment : ℕ) (e : Engine) (desk : LibraryDesk) → e.sessions ≡ desk → IsConfig config → AreSessionsOf config desk.desk.board → desk.desk.board.connections ≡ [] → HasNoLines e.lines
+    → StartsDials config e.dialler → StartsFigures config moment e → (door : Door) (links : ℕ → Link) → door.accepted ≡ 0 → door.dialled ≡ 0 → IsOnline e door links
+begins_online none_apart config moment e desk same is sessions none_came lines dials figures door links none undialled =
+    let board = desk.desk.board in
     let no_connections : length board.connections ≡ 0 = ap (λ (cs : List ConnectionState). length cs) none_came in
     let no_places : open_places e.lines ≡ [] = ap (λ (ks : List ℕ). ks ++ e.lines.dialled.items) lines.accepted ∙ lines.dialled in
+    let as_many : length e.sessions.desk.board.sessions ≡ length board.sessions = ap (λ (d : LibraryDesk). length d.desk.board.sessions) same in
+    let none_yet : length e.sessions.desk.board.connections ≡ length board.connections = ap (λ (d : LibraryDesk). length d.desk.board.connections) same in
     record {
-      wired = record {
+      wired = subst (λ (d : LibraryDesk). IsWired d.desk.board (open_places e.lines) door links) (sym same) (record {
         each = λ k small. absurd (omega arith);
         listed = subst (All (IsOpenPlace board links)) (sym no_places) (All-from_get_or (IsOpenPlace board links) [] 0 (λ i small. absurd (omega arith)));
         all = λ k small stands. absurd (omega arith);
-      };
-      dialling = begins_dialling config board e.dialler door is sessions dials undialled;
+      });
+      dialling = subst (λ (d : LibraryDesk). IsDialling d.desk.board door e.dialler) (sym same) (begins_dialling config board e.dialler door is sessions dials undialled);
       accepted = figures.accepted ∙ sym none;
       apart = subst AreApart (sym no_places) none_apart;
       few_accepted = (let first = ap (λ (ks : List ℕ). length ks) lines.accepted in omega arith);
       few_dialled = (let last = ap (λ (ks : List ℕ). length ks) lines.dialled in omega arith);
+      came = omega arith;
+      spare = record {
+        for_sessions = (let room = ap (λ (r : Room). r.sessions) figures.spare in let count = sessions.count in omega arith);
+        for_connections = (let room = ap (λ (r : Room). r.connections) figures.spare in let connections = figures.connections in let most = dials.most in omega arith);
+      };
     }

@@ -1,5 +1,6 @@
 -- What holds of an engine between two steps of a turn.
 use Rattle.std.specs.Prelude.{◌≡◌, ℕ, ◌+◌, ◌≤◌, false, length, min}
+use Rattle.engine_end.specs.Room.{HasRoomFor}
 use Rattle.engine_loop.specs.declared.engine.Engine.{Engine}
 use Rattle.gate_io.specs.Wire.{Door, Link}
 use Rattle.gate_io.specs.declared.clocks.TheConstants.{LAST_MOMENT}
@@ -21,7 +22,12 @@ pub record IsAtWork (shared : Shared) (e : Engine) : Type 0 where
   pub most : e.connections ≤ MOST_CONNECTIONS
   pub few : e.accepted ≤ e.connections
 
--- the wire has the engine's connections, and those that aren't closed are listed once each
+-- there is room for what the sessions leave, and as many connections as the run can have
+pub record HasSpare (e : Engine) : Type 0 where
+  pub for_sessions : length e.sessions.desk.board.sessions ≤ e.spare.sessions
+  pub for_connections : e.connections + e.dialler.most ≤ e.spare.connections
+
+-- The wire has the engine's connections, not more than it gave, and those that aren't closed are listed once each.
 pub record IsOnline (e : Engine) (door : Door) (links : ℕ → Link) : Type 0 where
   pub wired : IsWired e.sessions.desk.board (open_places e.lines) door links
   pub dialling : IsDialling e.sessions.desk.board door e.dialler
@@ -29,10 +35,13 @@ pub record IsOnline (e : Engine) (door : Door) (links : ℕ → Link) : Type 0 w
   pub apart : AreApart (open_places e.lines)
   pub few_accepted : length e.lines.accepted.items ≤ e.accepted
   pub few_dialled : length e.lines.dialled.items ≤ e.dialler.made
+  pub came : length e.sessions.desk.board.connections ≤ e.accepted + e.dialler.made
+  pub spare : HasSpare e
 
--- An engine between two calls: the journals tell the leases that its seat has seen, and where memory never was wanting, all is in order.
+-- An engine between two calls: the journals tell the leases that its seat has seen, there is room for what sessions and connections leave, and where memory never was wanting, all is in order.
 pub record IsEngine (shared : Shared) (e : Engine) (door : Door) (links : ℕ → Link) : Type 0 where
   pub agree : AllAgree e.sessions.desk.board e.sessions.desk.seat
+  pub room : HasRoomFor e.sessions.desk.board e.spare
   pub work : e.failed ≡ false → IsAtWork shared e
   pub online : e.failed ≡ false → IsOnline e door links
 

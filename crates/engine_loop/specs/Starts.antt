@@ -1,10 +1,11 @@
 -- What an engine begins with beside what its libraries have.
-use Rattle.std.specs.Prelude.{◌≡◌, ℕ, false, List, [], length, map, replicate}
+use Rattle.std.specs.Prelude.{◌≡◌, ℕ, ◌+◌, false, List, [], length, map, replicate}
 use Rattle.std.specs.List.{filter, range_with_len}
 use Rattle.std.specs.Option.{is_none}
 use Rattle.connection_core.specs.declared.limits.TheConstants.{MOST_READ}
 use Rattle.engine_config.specs.Config.{dial_of, names_of}
 use Rattle.engine_config.specs.declared.config.Config.{Config}
+use Rattle.engine_end.specs.Room.{Room}
 use Rattle.engine_loop.specs.declared.engine.Engine.{Engine}
 use Rattle.library_desk.specs.declared.desk.LibraryDesk.{LibraryDesk}
 use Rattle.session_desk.specs.Steps.{nothing_noted}
@@ -51,10 +52,15 @@ pub record StartsDials (config : Config) (d : Dialler) : Type 0 where
   pub made : d.made ≡ 0
   pub most : d.most ≡ config.dials
 
--- The limits are those that are configured, and no turn was made.
+-- for the records of each session, and of as many connections as are accepted and dialled
+abbrev pub room_of : Config → Room
+room_of config = record { sessions = length config.names; connections = config.connections + config.dials }
+
+-- The limits are those that are configured, there is room for what a run leaves, and no turn was made.
 pub record StartsFigures (config : Config) (at : ℕ) (e : Engine) : Type 0 where
   pub connections : e.connections ≡ config.connections
   pub accepted : e.accepted ≡ 0
   pub hold : e.hold ≡ config.hold
   pub moment : e.moment ≡ at
+  pub spare : e.spare ≡ room_of config
   pub failed : e.failed ≡ false

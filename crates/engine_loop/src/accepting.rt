@@ -1,6 +1,7 @@
 //! One connection is accepted.
 
 ghost use Rattle.std.specs.Prelude.{◌≡◌, ◌<◌, IfOk, OnOk};
+ghost use Rattle.engine_end.specs.Room.{HasRoomFor};
 ghost use Rattle.engine_loop.specs.Engines.{IsAtWork, IsOnline};
 ghost use Rattle.engine_loop.specs.Turns.{AcceptsNext, AsksForConnection, at_wire};
 ghost use Rattle.gate_io.specs.Wire.{Accepts};
@@ -31,6 +32,7 @@ impl Engine {
         ensures failed { self.new.failed ≡ self.old.failed }
         ensures online { OnOk result (IsOnline self.new (W.door wire.new) (W.link wire.new)) }
         ensures agree { AllAgree self.new.sessions.desk.board self.new.sessions.desk.seat }
+        ensures room { HasRoomFor self.new.sessions.desk.board self.new.spare }
     {
         if self.accepted == self.connections {
             return Ok(Accepted::Nothing);
@@ -54,6 +56,7 @@ impl Engine {
         ensures failed { self.new.failed ≡ self.old.failed }
         ensures online { OnOk result (IsOnline self.new (W.door wire.new) (W.link wire.new)) }
         ensures agree { AllAgree self.new.sessions.desk.board self.new.sessions.desk.seat }
+        ensures room { HasRoomFor self.new.sessions.desk.board self.new.spare }
     {
         engines_stay();
         dialling_goes_on();

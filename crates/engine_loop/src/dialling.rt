@@ -1,6 +1,7 @@
 //! Each session dials that is due.
 
 ghost use Rattle.std.specs.Prelude.{◌≡◌, ◌<◌, length, OnOk};
+ghost use Rattle.engine_end.specs.Room.{HasRoomFor};
 ghost use Rattle.engine_loop.specs.Engines.{IsAtWork, IsOnline};
 ghost use Rattle.engine_loop.specs.Turns.{DialsSession, at_wire};
 ghost use Rattle.lease_desk.specs.Desk.{AllAgree, InTurn};
@@ -27,6 +28,7 @@ impl Engine {
         ensures failed { self.new.failed ≡ self.old.failed }
         ensures online { OnOk result (IsOnline self.new (W.door wire.new) (W.link wire.new)) }
         ensures agree { AllAgree self.new.sessions.desk.board self.new.sessions.desk.seat }
+        ensures room { HasRoomFor self.new.sessions.desk.board self.new.spare }
     {
         for s in 0..self.sessions.desk.board.sessions() {
             self.dial_session(alloc, shared, wire, s as u16)?;
@@ -50,6 +52,7 @@ impl Engine {
         ensures failed { self.new.failed ≡ self.old.failed }
         ensures online { OnOk result (IsOnline self.new (W.door wire.new) (W.link wire.new)) }
         ensures agree { AllAgree self.new.sessions.desk.board self.new.sessions.desk.seat }
+        ensures room { HasRoomFor self.new.sessions.desk.board self.new.spare }
         ensures count { OnOk result (length self.new.sessions.desk.board.sessions ≡ length self.old.sessions.desk.board.sessions) }
     {
         engines_stay();

@@ -32,11 +32,12 @@ impl Engine {
         seats: Vec<LibrarySeat>,
     ) -> Result<EngineRecord, (NoMemory, EngineRecord)>
         requires work { self.failed ≡ false → IsAtWork shared.now self }
+        requires room { HasRoomFor self.sessions.desk.board self.spare }
         requires seats { All (λ (seat : LibraryView). seat.table ≡ shared.now.leases) seats.items }
         ensures finishes { IfOk result (Finishes seats.items self.lines.unkept.items self.accepted self.moment (until_of self) self.sessions) }
-        ensures finishes_short { self.failed ≡ false → IfErr result (λ e. HasRoomFor self.sessions.desk.board self.spare → FinishesShort seats.items self.accepted self.moment (until_of self) self.sessions e.1) }
+        ensures finishes_short { self.failed ≡ false → IfErr result (λ e. FinishesShort seats.items self.accepted self.moment (until_of self) self.sessions e.1) }
         // An engine for which memory was wanting leaves what it has.
-        ensures as_it_stood { self.failed ≡ true → IfErr result (λ e. HasRoomFor self.sessions.desk.board self.spare → IsLeftBy self.sessions.desk.board self.sessions.strays.items self.accepted [] e.1) }
+        ensures as_it_stood { self.failed ≡ true → IfErr result (λ e. IsLeftBy self.sessions.desk.board self.sessions.strays.items self.accepted [] e.1) }
         ensures stands_still { self.failed ≡ true → IsErr result }
         ensures journals { IfOk result (λ left. All HasLawfulJournal left.sessions) }
         ensures journals_short { IfErr result (λ e. All HasLawfulJournal e.1.sessions) }

@@ -1,6 +1,7 @@
 //! The second half of a turn, and a whole one.
 
 ghost use Rattle.std.specs.Prelude.{◌≡◌, ◌≤◌, IfOk, IsErr, OnErr, OnOk, length, true, false};
+ghost use Rattle.engine_end.specs.Room.{HasRoomFor};
 ghost use Rattle.engine_loop.specs.Engines.{IsAtWork, IsEngine, IsOnline};
 ghost use Rattle.engine_loop.specs.Turns.{GivesAll, GivesTurn, MakesTurn, WritesAll, at_wire};
 ghost use Rattle.gate_io.specs.Counts.{HasRisen};
@@ -88,11 +89,13 @@ impl Engine {
     ) -> Result<usize, NoMemory>
         requires work { IsAtWork shared.now self.old }
         requires online { IsOnline self.old (W.door wire.old) (W.link wire.old) }
+        requires room { HasRoomFor self.old.sessions.desk.board self.old.spare }
         ensures gives { IfOk result (λ bytes. GivesAll (W.link wire.old) (W.link wire.new) self.old self.new bytes) }
         ensures door { W.door wire.new ≡ W.door wire.old }
         ensures work { OnOk result (IsAtWork shared.now self.new) }
         ensures online { OnOk result (IsOnline self.new (W.door wire.new) (W.link wire.new)) }
         ensures agree { AllAgree self.new.sessions.desk.board self.new.sessions.desk.seat }
+        ensures room { HasRoomFor self.new.sessions.desk.board self.new.spare }
         ensures failed { self.new.failed ≡ self.old.failed }
     {
         self.publish_all(shared);
@@ -109,11 +112,13 @@ impl Engine {
     ) -> Result<usize, NoMemory>
         requires work { IsAtWork shared.now self.old }
         requires online { IsOnline self.old (W.door wire.old) (W.link wire.old) }
+        requires room { HasRoomFor self.old.sessions.desk.board self.old.spare }
         ensures writes { IfOk result (λ bytes. WritesAll (W.link wire.old) (W.link wire.new) self.old self.new bytes) }
         ensures door { W.door wire.new ≡ W.door wire.old }
         ensures work { OnOk result (IsAtWork shared.now self.new) }
         ensures online { OnOk result (IsOnline self.new (W.door wire.new) (W.link wire.new)) }
         ensures agree { AllAgree self.new.sessions.desk.board self.new.sessions.desk.seat }
+        ensures room { HasRoomFor self.new.sessions.desk.board self.new.spare }
         ensures failed { self.new.failed ≡ self.old.failed }
     {
         engines_stay();

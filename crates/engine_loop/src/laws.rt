@@ -23,7 +23,7 @@ pub fn engines_stay()
     // Nothing came, was cut or written.
     ensures still { (old new : Engine) (door : Door) (links : ℕ → Link) → GoesOnTo old.sessions.desk.board new.sessions.desk.board → length new.sessions.desk.board.connections ≡ length old.sessions.desk.board.connections
         → ((k : ℕ) → k < length old.sessions.desk.board.connections → KeepsBytes (connection_at old.sessions.desk.board k) (connection_at new.sessions.desk.board k))
-        → new.lines.accepted.items ≡ old.lines.accepted.items → new.lines.dialled.items ≡ old.lines.dialled.items → new.dialler ≡ old.dialler → new.accepted ≡ old.accepted → IsOnline old door links → IsOnline new door links }
+        → new.lines.accepted.items ≡ old.lines.accepted.items → new.lines.dialled.items ≡ old.lines.dialled.items → new.dialler ≡ old.dialler → new.accepted ≡ old.accepted → new.connections ≡ old.connections → new.spare ≡ old.spare → IsOnline old door links → IsOnline new door links }
     // What comes to the wire between two calls.
     ensures known { (shared : Shared) (e : Engine) (before after : Door) (old new : ℕ → Link) → KnowsAsBefore before after old new → IsEngine shared e before old → IsEngine shared e after new }
     // Entries are noted, or their records handed out.

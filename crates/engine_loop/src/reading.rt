@@ -1,6 +1,7 @@
 //! Each connection that stands is read.
 
 ghost use Rattle.std.specs.Prelude.{◌≡◌, ◌<◌, [], length, slice_index_or, IfOk, OnOk};
+ghost use Rattle.engine_end.specs.Room.{HasRoomFor};
 ghost use Rattle.engine_loop.specs.Engines.{IsAtWork, IsOnline};
 ghost use Rattle.engine_loop.specs.Turns.{ReadsAll, ReadsIfStands, reading_of};
 ghost use Rattle.lease_desk.specs.Desk.{AllAgree};
@@ -22,11 +23,13 @@ impl Engine {
     ) -> Result<Vec<(u32, WireGot)>, NoMemory>
         requires work { IsAtWork shared.now self.old }
         requires online { IsOnline self.old (W.door wire.old) (W.link wire.old) }
+        requires room { HasRoomFor self.old.sessions.desk.board self.old.spare }
         ensures reads { IfOk result (λ got. ReadsAll (open_places self.old.lines) (reading_of self.old (W.link wire.old) []) (reading_of self.new (W.link wire.new) got.items)) }
         ensures work { OnOk result (IsAtWork shared.now self.new) }
         ensures failed { self.new.failed ≡ self.old.failed }
         ensures online { OnOk result (IsOnline self.new (W.door wire.new) (W.link wire.new)) }
         ensures agree { AllAgree self.new.sessions.desk.board self.new.sessions.desk.seat }
+        ensures room { HasRoomFor self.new.sessions.desk.board self.new.spare }
         ensures door { W.door wire.new ≡ W.door wire.old }
     {
         let count = self.open_count();
@@ -50,11 +53,13 @@ impl Engine {
         requires work { IsAtWork shared.now self.old }
         requires online { IsOnline self.old (W.door wire.old) (W.link wire.old) }
         requires connection { k < length self.old.sessions.desk.board.connections }
+        requires room { HasRoomFor self.old.sessions.desk.board self.old.spare }
         ensures reads { OnOk result (ReadsIfStands k (reading_of self.old (W.link wire.old) got.old.items) (reading_of self.new (W.link wire.new) got.new.items)) }
         ensures work { OnOk result (IsAtWork shared.now self.new) }
         ensures failed { self.new.failed ≡ self.old.failed }
         ensures online { OnOk result (IsOnline self.new (W.door wire.new) (W.link wire.new)) }
         ensures agree { AllAgree self.new.sessions.desk.board self.new.sessions.desk.seat }
+        ensures room { HasRoomFor self.new.sessions.desk.board self.new.spare }
         ensures door { W.door wire.new ≡ W.door wire.old }
         ensures places { open_places self.new.lines ≡ open_places self.old.lines }
         ensures connections { OnOk result (length self.new.sessions.desk.board.connections ≡ length self.old.sessions.desk.board.connections) }

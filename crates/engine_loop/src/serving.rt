@@ -1,6 +1,7 @@
 //! Each library is served.
 
 ghost use Rattle.std.specs.Prelude.{◌≡◌, ◌≤◌, ◌+◌, ℕ, [], length, IfOk, OnOk};
+ghost use Rattle.engine_end.specs.Room.{HasRoomFor};
 ghost use Rattle.engine_loop.specs.Engines.{IsAtWork, IsOnline, until_of};
 ghost use Rattle.engine_loop.specs.Turns.{ServesOne, serving_of};
 ghost use Rattle.gate_io.specs.Wire.{Door, Link};
@@ -24,11 +25,13 @@ impl Engine {
         shared: &Shared,
     ) -> Result<Vec<LibTurn>, NoMemory>
         requires work { IsAtWork shared.now self.old }
+        requires room { HasRoomFor self.old.sessions.desk.board self.old.spare }
         ensures serves { IfOk result (λ turns. InTurn (λ i. ServesOne (i + 1)) (length self.old.sessions.ends.items) (serving_of self.old []) (serving_of self.new turns.items)) }
         ensures work { OnOk result (IsAtWork shared.now self.new) }
         ensures failed { self.new.failed ≡ self.old.failed }
         ensures online { OnOk result ((door : Door) (links : ℕ → Link) → IsOnline self.old door links → IsOnline self.new door links) }
         ensures agree { AllAgree self.new.sessions.desk.board self.new.sessions.desk.seat }
+        ensures room { HasRoomFor self.new.sessions.desk.board self.new.spare }
     {
         let libraries = self.sessions.ends.len();
         let mut turns = Vec::with_capacity(alloc, libraries)?;
@@ -48,12 +51,14 @@ impl Engine {
     ) -> Result<LibTurn, NoMemory>
         requires work { IsAtWork shared.now self.old }
         requires library { (1 ≤ library) × (library ≤ length self.old.sessions.ends.items) }
+        requires room { HasRoomFor self.old.sessions.desk.board self.old.spare }
         ensures serves { IfOk result (λ turn. Serves library self.old.moment (until_of self.old) self.old.sessions self.new.sessions turn) }
         ensures rest { self.new ≡ record self.old { sessions = self.new.sessions } }
         ensures work { OnOk result (IsAtWork shared.now self.new) }
         ensures failed { self.new.failed ≡ self.old.failed }
         ensures online { OnOk result ((door : Door) (links : ℕ → Link) → IsOnline self.old door links → IsOnline self.new door links) }
         ensures agree { AllAgree self.new.sessions.desk.board self.new.sessions.desk.seat }
+        ensures room { HasRoomFor self.new.sessions.desk.board self.new.spare }
         ensures libraries { length self.new.sessions.ends.items ≡ length self.old.sessions.ends.items }
     {
         serving_happens();

@@ -5,7 +5,7 @@ ghost use Rattle.std.specs.Option.{is_none};
 ghost use Rattle.connection_core.specs.declared.limits.TheConstants.{MOST_READ};
 ghost use Rattle.engine_config.specs.Config.{IsConfig, dial_of, names_of};
 ghost use Rattle.engine_loop.specs.Engines.{IsAtWork, IsOnline};
-ghost use Rattle.engine_loop.specs.Starts.{HasNoLines, StartsDials, StartsFigures, StartsLines, StartsRoutes, dialler_of, library_desk_of, wire_desk_of};
+ghost use Rattle.engine_loop.specs.Starts.{HasNoLines, StartsDials, StartsFigures, StartsLines, StartsRoutes, dialler_of, library_desk_of, room_of, wire_desk_of};
 ghost use Rattle.engine_start.specs.Restarts.{AreRecordsOf, NotesClosing, RestartsSessions, ResumesLeases, ResumesTable, hold_until};
 ghost use Rattle.engine_start.specs.Starts.{StartsDesk, StartsEngine, StartsLibraries, StartsSessions, StartsTable};
 ghost use Rattle.gate_io.specs.Wire.{Door, Link};
@@ -18,7 +18,7 @@ use engine_end::RecordRoom;
 use engine_start::LibraryEnds;
 use gate_io::{Bytes, LAST_MOMENT, NoMemory};
 use lease_core::Record;
-use library_desk::Shared;
+use library_desk::{LibraryDesk, Shared};
 use session_book::Unkept;
 use session_core::Names;
 use session_desk::Routes;
@@ -53,17 +53,7 @@ pub fn start(
     places_stay_apart();
     let (sessions, shared, ends) = engine_start::start(alloc, &config, moment)?;
     let unkept = unkept(alloc, config.names.as_slice().len())?;
-    let engine = Engine {
-        sessions,
-        lines: lines(alloc, &config, unkept)?,
-        connections: config.connections,
-        accepted: 0,
-        hold: config.hold,
-        moment,
-        spare: spare(alloc, &config)?,
-        failed: false,
-        dialler: dialler(alloc, config)?,
-    };
+    let engine = outset(alloc, config, moment, sessions, unkept)?;
     Ok((engine, shared, ends))
 }
 
@@ -101,7 +91,27 @@ pub fn start_from(
     let (sessions, shared, ends, unkept) = engine_start::start_from(
         alloc, &config, moment, records,
     )?;
-    let engine = Engine {
+    let engine = outset(alloc, config, moment, sessions, unkept)?;
+    Ok((engine, shared, ends))
+}
+
+/// An engine that made no turn, with these sessions, of whose entries this is noted.
+fn outset(
+    alloc: Global,
+    config: Config,
+    moment: u64,
+    sessions: LibraryDesk,
+    unkept: Vec<Unkept>,
+) -> Result<Engine, NoMemory>
+    requires config { IsConfig config }
+    ensures sessions { IfOk result (λ engine. library_desk_of engine ≡ sessions) }
+    ensures unkept { IfOk result (λ engine. (wire_desk_of engine).unkept.items ≡ unkept.items) }
+    ensures routes { IfOk result (λ engine. StartsRoutes config (length config.names) (wire_desk_of engine).routes) }
+    ensures lines { IfOk result (λ engine. HasNoLines (wire_desk_of engine)) }
+    ensures dials { IfOk result (λ engine. StartsDials config (dialler_of engine)) }
+    ensures figures { IfOk result (StartsFigures config moment) }
+{
+    Ok(Engine {
         sessions,
         lines: lines(alloc, &config, unkept)?,
         connections: config.connections,
@@ -111,13 +121,13 @@ pub fn start_from(
         spare: spare(alloc, &config)?,
         failed: false,
         dialler: dialler(alloc, config)?,
-    };
-    Ok((engine, shared, ends))
+    })
 }
 
 /// Room for what a run leaves: of each session, and of as many connections as are accepted and dialled.
 fn spare(alloc: Global, config: &Config) -> Result<RecordRoom, NoMemory>
     requires config { IsConfig config.now }
+    ensures { IfOk result (λ room. room ≡ room_of config.now) }
 {
     let sessions = config.names.as_slice().len();
     RecordRoom::new(

@@ -1,6 +1,7 @@
 //! The first half of a turn.
 
 ghost use Rattle.std.specs.Prelude.{◌≡◌, IfOk, IsErr, OnErr, OnOk, true, false};
+ghost use Rattle.engine_end.specs.Room.{HasRoomFor};
 ghost use Rattle.engine_loop.specs.Engines.{IsAtWork, IsEngine, IsOnline};
 ghost use Rattle.engine_loop.specs.Turns.{TakesTurn, at_wire, with_moment};
 ghost use Rattle.gate_io.specs.Counts.{HasRisen};
@@ -66,6 +67,7 @@ impl Engine {
         ensures work { OnOk result (IsAtWork shared.now self.new) }
         ensures online { OnOk result (IsOnline self.new (W.door wire.new) (W.link wire.new)) }
         ensures agree { AllAgree self.new.sessions.desk.board self.new.sessions.desk.seat }
+        ensures room { HasRoomFor self.new.sessions.desk.board self.new.spare }
         ensures failed { OnOk result (self.new.failed ≡ self.old.failed) }
     {
         engines_stay();

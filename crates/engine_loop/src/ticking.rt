@@ -1,6 +1,7 @@
 //! Each session hears the clock.
 
 ghost use Rattle.std.specs.Prelude.{◌≡◌, ◌<◌, ℕ, length, OnOk};
+ghost use Rattle.engine_end.specs.Room.{HasRoomFor};
 ghost use Rattle.engine_loop.specs.Engines.{IsAtWork, IsOnline};
 ghost use Rattle.engine_loop.specs.Turns.{TicksSession};
 ghost use Rattle.gate_io.specs.Wire.{Door, Link};
@@ -19,11 +20,13 @@ impl Engine {
     /// Each session is gathered and hears the clock, in the order of their numbers.
     pub(crate) fn tick_all(&mut self, alloc: Global, shared: &Shared) -> Result<(), NoMemory>
         requires work { IsAtWork shared.now self.old }
+        requires room { HasRoomFor self.old.sessions.desk.board self.old.spare }
         ensures ticks { OnOk result (InTurn TicksSession (length self.old.sessions.desk.board.sessions) self.old self.new) }
         ensures work { OnOk result (IsAtWork shared.now self.new) }
         ensures failed { self.new.failed ≡ self.old.failed }
         ensures online { OnOk result ((door : Door) (links : ℕ → Link) → IsOnline self.old door links → IsOnline self.new door links) }
         ensures agree { AllAgree self.new.sessions.desk.board self.new.sessions.desk.seat }
+        ensures room { HasRoomFor self.new.sessions.desk.board self.new.spare }
         ensures count { OnOk result (length self.new.sessions.desk.board.sessions ≡ length self.old.sessions.desk.board.sessions) }
     {
         for s in 0..self.sessions.desk.board.sessions() {
@@ -36,11 +39,13 @@ impl Engine {
     fn tick_session(&mut self, alloc: Global, shared: &Shared, s: u16) -> Result<(), NoMemory>
         requires work { IsAtWork shared.now self.old }
         requires session { s < length self.old.sessions.desk.board.sessions }
+        requires room { HasRoomFor self.old.sessions.desk.board self.old.spare }
         ensures ticks { OnOk result (TicksSession s self.old self.new) }
         ensures work { OnOk result (IsAtWork shared.now self.new) }
         ensures failed { self.new.failed ≡ self.old.failed }
         ensures online { OnOk result ((door : Door) (links : ℕ → Link) → IsOnline self.old door links → IsOnline self.new door links) }
         ensures agree { AllAgree self.new.sessions.desk.board self.new.sessions.desk.seat }
+        ensures room { HasRoomFor self.new.sessions.desk.board self.new.spare }
         ensures count { OnOk result (length self.new.sessions.desk.board.sessions ≡ length self.old.sessions.desk.board.sessions) }
     {
         none_comes();

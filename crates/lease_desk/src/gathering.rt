@@ -51,6 +51,7 @@ impl LeaseDesk {
         ensures others_taken { OnOk result (OthersTaken leases.now.shape.libraries (engine_at self.new.seat s)) }
         ensures seats { self.new.seat.settled ≡ self.old.seat.settled }
         ensures goes_on { (j : ℕ) → GoesOn self.old.board self.new.board j }
+        ensures none_comes { length self.new.board.connections ≡ length self.old.board.connections }
     {
         boards_stay_sound();
         lines_tell_the_owner();
@@ -88,6 +89,7 @@ impl LeaseDesk {
         ensures table { self.new.seat.table ≡ self.old.seat.table }
         ensures in_step { IsInStep self.old.board self.old.seat → IsInStep self.new.board self.new.seat }
         ensures goes_on { (j : ℕ) → GoesOn self.old.board self.new.board j }
+        ensures none_comes { length self.new.board.connections ≡ length self.old.board.connections }
     {
         boards_stay_sound();
         lines_tell_the_owner();
@@ -122,6 +124,7 @@ impl LeaseDesk {
         ensures table { self.new.seat.table ≡ self.old.seat.table }
         ensures sessions { length self.new.board.sessions ≡ length self.old.board.sessions }
         ensures goes_on { (j : ℕ) → GoesOn self.old.board self.new.board j }
+        ensures none_comes { length self.new.board.connections ≡ length self.old.board.connections }
     {
         for s in 0..self.board.sessions() {
             self.take_back_from(alloc, leases, library, s as u16, at, until)?;
@@ -153,6 +156,7 @@ impl LeaseDesk {
         ensures table { self.new.seat.table ≡ self.old.seat.table }
         ensures sessions { length self.new.board.sessions ≡ length self.old.board.sessions }
         ensures goes_on { (j : ℕ) → GoesOn self.old.board self.new.board j }
+        ensures none_comes { length self.new.board.connections ≡ length self.old.board.connections }
     {
         boards_stay_sound();
         lines_tell_the_owner();

@@ -48,6 +48,7 @@ impl LeaseDesk {
         ensures agrees { Agrees self.new.board self.new.seat s }
         ensures table { self.new.seat.table ≡ self.old.seat.table }
         ensures in_step { IsInStep self.old.board self.old.seat → IsInStep self.new.board self.new.seat }
+        ensures none_comes { length self.new.board.connections ≡ length self.old.board.connections }
     {
         boards_stay_sound();
         entries_decide_one_by_one();

@@ -26,6 +26,7 @@ impl LibraryDesk {
         ensures replies { IfOk result (λ notice. RepliesTo library nr s from self.old self.new notice) }
         ensures linked { IsLinked shared.now self.new }
         ensures ready { IsInOrder self.new }
+        ensures none_comes { length self.new.desk.board.connections ≡ length self.old.desk.board.connections }
         ensures ends { self.new.ends ≡ self.old.ends }
     {
         if usize::from(s) >= self.desk.board.sessions() {

@@ -22,6 +22,7 @@ impl LibraryDesk {
         ensures silent { IsTrue result ↔ IsSilent self.old.watch library at (heard_of self.new.desk.seat.knows library).count }
         ensures linked { IsLinked shared.now self.new }
         ensures ready { IsInOrder self.new }
+        ensures none_comes { length self.new.desk.board.connections ≡ length self.old.desk.board.connections }
     {
         agreement_stays();
         let beat = shared.leases.beats(&mut self.desk.seat, library);
@@ -45,6 +46,7 @@ impl LibraryDesk {
         ensures rest { self.new ≡ record self.old { desk = self.new.desk } }
         ensures linked { IsLinked shared.now self.new }
         ensures ready { IsInOrder self.new }
+        ensures none_comes { length self.new.desk.board.connections ≡ length self.old.desk.board.connections }
     {
         self.desk
             .take_back_all(alloc, &shared.leases, library, at, until)

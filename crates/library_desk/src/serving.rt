@@ -43,6 +43,7 @@ impl LibraryDesk {
         ensures serves { IfOk result (λ turn. Serves library at until self.old self.new turn) }
         ensures linked { IsLinked shared.now self.new }
         ensures ready { IsInOrder self.new }
+        ensures none_comes { length self.new.desk.board.connections ≡ length self.old.desk.board.connections }
     {
         if self.hear(shared, library, at) {
             self.take_back_all(alloc, shared, library, at, until)?;
@@ -60,6 +61,7 @@ impl LibraryDesk {
         ensures answers { IfOk result (λ turn. Answers library self.old self.new turn) }
         ensures linked { IsLinked shared.now self.new }
         ensures ready { IsInOrder self.new }
+        ensures none_comes { length self.new.desk.board.connections ≡ length self.old.desk.board.connections }
     {
         match self.look(shared, library) {
             Next::Full { pushed, taken } => Ok(LibTurn::NoRoom { pushed, taken }),
@@ -82,6 +84,7 @@ impl LibraryDesk {
         ensures room { OnPopped result (HasRoomFor library self.new) }
         ensures linked { IsLinked shared.now self.new }
         ensures ready { IsInOrder self.new }
+        ensures none_comes { length self.new.desk.board.connections ≡ length self.old.desk.board.connections }
     {
         let place = usize::from(library - 1);
         self.ends[place].next(&shared.commands[place], &shared.notices[place])
@@ -96,6 +99,7 @@ impl LibraryDesk {
         ensures tells { TellsTo library notice self.old self.new }
         ensures linked { IsLinked shared.now self.new }
         ensures ready { IsInOrder self.new }
+        ensures none_comes { length self.new.desk.board.connections ≡ length self.old.desk.board.connections }
     {
         let place = usize::from(library - 1);
         self.ends[place].tell(&shared.notices[place], notice);

@@ -1,6 +1,6 @@
 //! A session dials.
 
-ghost use Rattle.std.specs.Prelude.{◌≡◌, ◌<◌, ◌≤◌, length, None, IfOk, IsSome, OnOk};
+ghost use Rattle.std.specs.Prelude.{◌≡◌, ◌<◌, ◌≤◌, ◌+◌, length, None, IfOk, IsSome, OnOk};
 ghost use Rattle.lease_desk.specs.Desk.{AllAgree};
 ghost use Rattle.session_desk.specs.Steps.{DialsTo, IsSteady, Proceeds};
 ghost use Rattle.switchboard.specs.Board.{book_at, place_at};
@@ -44,6 +44,7 @@ pub fn dial(
     ensures agree { AllAgree desk.new.board desk.new.seat }
     ensures table { desk.new.seat.table ≡ desk.old.seat.table }
     ensures sessions { length desk.new.board.sessions ≡ length desk.old.board.sessions }
+    ensures one_comes { length desk.new.board.connections ≤ length desk.old.board.connections + 1 }
 {
     sessions_proceed();
     gather(alloc, desk, leases, s, at, until)?;
@@ -71,6 +72,7 @@ fn bind_next(
     ensures proceeds { OnOk result (Proceeds desk.old.board desk.new.board) }
     ensures agree { AllAgree desk.new.board desk.new.seat }
     ensures sessions { length desk.new.board.sessions ≡ length desk.old.board.sessions }
+    ensures one_comes { length desk.new.board.connections ≤ length desk.old.board.connections + 1 }
     ensures seat { desk.new.seat ≡ desk.old.seat }
 {
     boards_stay_ready();

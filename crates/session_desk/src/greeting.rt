@@ -61,6 +61,7 @@ pub fn greet(
     ensures agree { AllAgree desk.new.board desk.new.seat }
     ensures table { desk.new.seat.table ≡ desk.old.seat.table }
     ensures sessions { length desk.new.board.sessions ≡ length desk.old.board.sessions }
+    ensures none_comes { length desk.new.board.connections ≡ length desk.old.board.connections }
 {
     match destination(alloc, desk, routes, body.as_slice())? {
         Err(cause) => {
@@ -104,6 +105,7 @@ fn admit(
     ensures agree { AllAgree desk.new.board desk.new.seat }
     ensures table { desk.new.seat.table ≡ desk.old.seat.table }
     ensures sessions { length desk.new.board.sessions ≡ length desk.old.board.sessions }
+    ensures none_comes { length desk.new.board.connections ≡ length desk.old.board.connections }
 {
     sessions_proceed();
     gather(alloc, desk, leases, s, at, until)?;
@@ -197,6 +199,7 @@ fn bind(
     ensures proceeds { OnOk result (Proceeds desk.old.board desk.new.board) }
     ensures agree { AllAgree desk.new.board desk.new.seat }
     ensures sessions { length desk.new.board.sessions ≡ length desk.old.board.sessions }
+    ensures none_comes { length desk.new.board.connections ≡ length desk.old.board.connections }
     ensures seat { desk.new.seat ≡ desk.old.seat }
 {
     sessions_proceed();
@@ -231,6 +234,7 @@ fn take_logon(
     ensures proceeds { OnOk result (Proceeds desk.old.board desk.new.board) }
     ensures agree { AllAgree desk.new.board desk.new.seat }
     ensures sessions { length desk.new.board.sessions ≡ length desk.old.board.sessions }
+    ensures none_comes { length desk.new.board.connections ≡ length desk.old.board.connections }
     ensures seat { desk.new.seat ≡ desk.old.seat }
 {
     boards_stay_ready();
@@ -270,6 +274,7 @@ fn open(
     ensures placed { OnOk result (place_at desk.new.board s ≡ Some k) }
     ensures agree { AllAgree desk.new.board desk.new.seat }
     ensures sessions { length desk.new.board.sessions ≡ length desk.old.board.sessions }
+    ensures none_comes { length desk.new.board.connections ≡ length desk.old.board.connections }
     ensures seat { desk.new.seat ≡ desk.old.seat }
 {
     agreement_stays();
@@ -290,6 +295,7 @@ fn leave(desk: &mut LeaseDesk, s: u16, k: usize, cause: Cause) -> Result<(), NoM
     ensures happens { OnOk result (Happens (ends_bound s k cause) desk.old.board desk.new.board) }
     ensures agree { OnErr result (AllAgree desk.new.board desk.new.seat) }
     ensures sessions { length desk.new.board.sessions ≡ length desk.old.board.sessions }
+    ensures none_comes { length desk.new.board.connections ≡ length desk.old.board.connections }
     ensures seat { desk.new.seat ≡ desk.old.seat }
 {
     agreement_stays();

@@ -47,6 +47,7 @@ pub fn hear(
     ensures agree { AllAgree desk.new.board desk.new.seat }
     ensures table { desk.new.seat.table ≡ desk.old.seat.table }
     ensures sessions { length desk.new.board.sessions ≡ length desk.old.board.sessions }
+    ensures none_comes { length desk.new.board.connections ≡ length desk.old.board.connections }
 {
     sessions_proceed();
     gather(alloc, desk, leases, s, at, until)?;
@@ -76,6 +77,7 @@ fn take_message(
     ensures agree { AllAgree desk.new.board desk.new.seat }
     ensures places { desk.new.board.places ≡ desk.old.board.places }
     ensures sessions { length desk.new.board.sessions ≡ length desk.old.board.sessions }
+    ensures none_comes { length desk.new.board.connections ≡ length desk.old.board.connections }
     ensures seat { desk.new.seat ≡ desk.old.seat }
 {
     boards_stay_ready();
@@ -101,6 +103,7 @@ fn settle(desk: &mut LeaseDesk, s: u16, k: usize, end: Option<Cause>) -> Result<
     ensures proceeds { OnOk result (Proceeds desk.old.board desk.new.board) }
     ensures agree { AllAgree desk.new.board desk.new.seat }
     ensures sessions { length desk.new.board.sessions ≡ length desk.old.board.sessions }
+    ensures none_comes { length desk.new.board.connections ≡ length desk.old.board.connections }
     ensures seat { desk.new.seat ≡ desk.old.seat }
 {
     boards_stay_ready();
@@ -121,6 +124,7 @@ fn answer_unless_refused(desk: &mut LeaseDesk, s: u16, k: usize, end: Option<Cau
     ensures seat { desk.new.seat ≡ desk.old.seat }
     ensures places { desk.new.board.places ≡ desk.old.board.places }
     ensures sessions { desk.new.board.sessions ≡ desk.old.board.sessions }
+    ensures none_comes { length desk.new.board.connections ≡ length desk.old.board.connections }
 {
     ready_boards_allow();
     boards_stay_ready();
@@ -140,6 +144,7 @@ fn end_by(desk: &mut LeaseDesk, s: u16, k: usize, end: Option<Cause>) -> Result<
     ensures proceeds { OnOk result (Proceeds desk.old.board desk.new.board) }
     ensures agree { AllAgree desk.new.board desk.new.seat }
     ensures sessions { length desk.new.board.sessions ≡ length desk.old.board.sessions }
+    ensures none_comes { length desk.new.board.connections ≡ length desk.old.board.connections }
     ensures seat { desk.new.seat ≡ desk.old.seat }
 {
     boards_stay_ready();
@@ -160,6 +165,7 @@ fn answer(desk: &mut LeaseDesk, k: usize)
     ensures seat { desk.new.seat ≡ desk.old.seat }
     ensures places { desk.new.board.places ≡ desk.old.board.places }
     ensures sessions { desk.new.board.sessions ≡ desk.old.board.sessions }
+    ensures none_comes { length desk.new.board.connections ≡ length desk.old.board.connections }
 {
     boards_stay_ready();
     boards_stay_in_step();

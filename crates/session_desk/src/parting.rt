@@ -25,6 +25,7 @@ pub fn part(desk: &mut LeaseDesk, k: usize, cause: Cause) -> Result<(), NoMemory
     ensures proceeds { OnOk result (Proceeds desk.old.board desk.new.board) }
     ensures agree { AllAgree desk.new.board desk.new.seat }
     ensures sessions { length desk.new.board.sessions ≡ length desk.old.board.sessions }
+    ensures none_comes { length desk.new.board.connections ≡ length desk.old.board.connections }
 {
     ready_boards_allow();
     match desk.board.connection(k).session() {
@@ -46,6 +47,7 @@ pub(crate) fn end_alone(desk: &mut LeaseDesk, k: usize, cause: Cause)
     ensures proceeds { Proceeds desk.old.board desk.new.board }
     ensures seat { desk.new.seat ≡ desk.old.seat }
     ensures sessions { desk.new.board.sessions ≡ desk.old.board.sessions }
+    ensures none_comes { length desk.new.board.connections ≡ length desk.old.board.connections }
 {
     boards_stay_ready();
     boards_stay_in_step();

@@ -42,6 +42,7 @@ pub(crate) fn gather(
     ensures bound { OnOk result (bound_of (book_at desk.new.board s) ≡ bound_of (book_at desk.old.board s)) }
     ensures same { OnOk result (IsSameSession (book_at desk.old.board s) (book_at desk.new.board s)) }
     ensures sessions { length desk.new.board.sessions ≡ length desk.old.board.sessions }
+    ensures none_comes { length desk.new.board.connections ≡ length desk.old.board.connections }
     ensures table { desk.new.seat.table ≡ desk.old.seat.table }
 {
     boards_stay_ready();
@@ -61,6 +62,7 @@ pub(crate) fn end(desk: &mut LeaseDesk, s: u16, k: usize, cause: Cause) -> Resul
     ensures proceeds { OnOk result (Proceeds desk.old.board desk.new.board) }
     ensures agree { AllAgree desk.new.board desk.new.seat }
     ensures sessions { length desk.new.board.sessions ≡ length desk.old.board.sessions }
+    ensures none_comes { length desk.new.board.connections ≡ length desk.old.board.connections }
     ensures seat { desk.new.seat ≡ desk.old.seat }
 {
     boards_stay_ready();

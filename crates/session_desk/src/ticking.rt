@@ -42,6 +42,7 @@ pub fn tick(
     ensures agree { AllAgree desk.new.board desk.new.seat }
     ensures table { desk.new.seat.table ≡ desk.old.seat.table }
     ensures sessions { length desk.new.board.sessions ≡ length desk.old.board.sessions }
+    ensures none_comes { length desk.new.board.connections ≡ length desk.old.board.connections }
 {
     sessions_proceed();
     gather(alloc, desk, leases, s, at, until)?;
@@ -61,6 +62,7 @@ fn lapse(desk: &mut LeaseDesk, s: u16, at: u64) -> Result<(), NoMemory>
     ensures agree { AllAgree desk.new.board desk.new.seat }
     ensures places { desk.new.board.places ≡ desk.old.board.places }
     ensures sessions { length desk.new.board.sessions ≡ length desk.old.board.sessions }
+    ensures none_comes { length desk.new.board.connections ≡ length desk.old.board.connections }
     ensures seat { desk.new.seat ≡ desk.old.seat }
 {
     boards_stay_ready();
@@ -94,6 +96,7 @@ fn take_tick(
     ensures agree { AllAgree desk.new.board desk.new.seat }
     ensures places { desk.new.board.places ≡ desk.old.board.places }
     ensures sessions { length desk.new.board.sessions ≡ length desk.old.board.sessions }
+    ensures none_comes { length desk.new.board.connections ≡ length desk.old.board.connections }
     ensures seat { desk.new.seat ≡ desk.old.seat }
 {
     boards_stay_ready();
@@ -117,6 +120,7 @@ fn end_if_bound(desk: &mut LeaseDesk, s: u16, cause: Option<Cause>) -> Result<()
     ensures proceeds { OnOk result (Proceeds desk.old.board desk.new.board) }
     ensures agree { AllAgree desk.new.board desk.new.seat }
     ensures sessions { length desk.new.board.sessions ≡ length desk.old.board.sessions }
+    ensures none_comes { length desk.new.board.connections ≡ length desk.old.board.connections }
     ensures seat { desk.new.seat ≡ desk.old.seat }
 {
     sessions_proceed();

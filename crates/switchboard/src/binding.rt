@@ -1,6 +1,6 @@
 //! Which connection a session is bound to.
 
-ghost use Rattle.std.specs.Prelude.{◌≡◌, ◌≢◌, ◌<◌, ◌≤◌, ◌⊎◌, ◌∷◌, ◌++◌, [], length, None, Some, IsNone, IsSome, IfOk, OnOk, OnErr, List, slice_set, take, true};
+ghost use Rattle.std.specs.Prelude.{◌≡◌, ◌≢◌, ◌<◌, ◌≤◌, ◌+◌, ◌⊎◌, ◌∷◌, ◌++◌, [], length, None, Some, IsNone, IsSome, IfOk, OnOk, OnErr, List, slice_set, take, true};
 ghost use Rattle.connection_core.specs.Connection.{after_end, fresh_dial};
 ghost use Rattle.connection_core.specs.Outgoing.{no_outgoing};
 ghost use Rattle.lease_core.specs.State.{state_of};
@@ -82,6 +82,7 @@ impl Switchboard {
         ensures begun { OnErr result ((book_at self.new s ≡ book_at self.old s) ⊎ IsBegun at (ask (book_at self.old s).machine).acts (with_outbox (with_machine (after_ask (book_at self.old s).machine at) (with_event (Binds number) (book_at self.old s))) no_outgoing) (desk_with self.new s (Some (length self.old.connections)))) }
         ensures err_places { OnErr result (self.new.places ≡ self.old.places) }
         ensures err_connections { OnErr result (take (length self.old.connections) self.new.connections ≡ self.old.connections) }
+        ensures err_few { OnErr result (length self.new.connections ≤ length self.old.connections + 1) }
     {
         self.connections.reserve(1)?;
         let k = self.connections.len();

@@ -1,6 +1,6 @@
 //! A connection is accepted.
 
-ghost use Rattle.std.specs.Prelude.{◌≡◌, ◌<◌, ◌≤◌, length, IfOk, OnOk};
+ghost use Rattle.std.specs.Prelude.{◌≡◌, ◌+◌, ◌<◌, ◌≤◌, length, IfOk, OnOk};
 ghost use Rattle.gate_io.specs.Wire.{Accepts as TheWireAccepts, OthersStay};
 ghost use Rattle.gate_io.specs.declared.wires.TheConstants.{MOST_CONNECTIONS};
 ghost use Rattle.connection_core.specs.Connection.{room};
@@ -43,6 +43,8 @@ impl WireDesk {
         ensures set_up { OnOk result (IsSetUp leases.now desk.new self.new) }
         ensures wired { OnOk result (IsWired desk.new.board (open_places self.new) (W.door wire.new) (W.link wire.new)) }
         ensures agree { AllAgree desk.new.board desk.new.seat }
+        ensures one_comes { length desk.new.board.connections ≤ length desk.old.board.connections + 1 }
+        ensures sessions_stay { length desk.new.board.sessions ≡ length desk.old.board.sessions }
         ensures exact { IfOk result (λ accepted. W.accept_gives wire.old accepted wire.new) }
         ensures others { OthersStay (W.link wire.old) (W.link wire.new) (W.door wire.old).accepted }
         ensures rest { self.new ≡ record self.old { accepted = self.new.accepted } }
@@ -70,6 +72,8 @@ fn add(alloc: Global, desk: &mut LeaseDesk, number: u32, at: u64) -> Result<usiz
     ensures goes_on { OnOk result (GoesOnTo desk.old.board desk.new.board) }
     ensures steady { IsSteady desk.new.board desk.new.seat }
     ensures agree { AllAgree desk.new.board desk.new.seat }
+    ensures one_comes { length desk.new.board.connections ≤ length desk.old.board.connections + 1 }
+    ensures sessions_stay { length desk.new.board.sessions ≡ length desk.old.board.sessions }
     ensures seat { desk.new.seat ≡ desk.old.seat }
 {
     boards_stay_ready();

@@ -1,7 +1,7 @@
 //! A session dials.
 
 ghost use Rattle.std.specs.List.{All};
-ghost use Rattle.std.specs.Prelude.{◌≡◌, ◌+◌, ◌<◌, ◌≤◌, ◌↔◌, ℕ, length, IfNone, IfOk, IfSome, IsSome, IsTrue, OnOk};
+ghost use Rattle.std.specs.Prelude.{◌≡◌, ◌+◌, ◌<◌, ◌≤◌, ◌↔◌, ℕ, length, IfNone, IfOk, IfSome, IsSome, IsTrue, OnErr, OnOk};
 ghost use Rattle.engine_config.specs.declared.config.TheConstants.{MOST_WAIT};
 ghost use Rattle.gate_io.specs.Wire.{Dials as TheWireDials, Door, OthersStay};
 ghost use Rattle.gate_io.specs.declared.wires.TheConstants.{FIRST_DIALLED};
@@ -69,6 +69,10 @@ impl Dialler {
         ensures wired { OnOk result (IsWired desk.new.board (open_places lines.new) (W.door wire.new) (W.link wire.new)) }
         ensures dialling { OnOk result (IsDialling desk.new.board (W.door wire.new) self.new) }
         ensures agree { AllAgree desk.new.board desk.new.seat }
+        ensures one_comes { length desk.new.board.connections ≤ length desk.old.board.connections + 1 }
+        // Memory is asked for only where a dial is due.
+        ensures err_due { OnErr result (IsDialDue desk.old.board self.old s at) }
+        ensures sessions_stay { length desk.new.board.sessions ≡ length desk.old.board.sessions }
         ensures lines { lines.new ≡ record lines.old { dialled = lines.new.dialled } }
         ensures listed { IfOk result (λ answer. lines.new.dialled.items ≡ dialled_behind answer (length desk.old.board.connections) lines.old.dialled.items) }
     {

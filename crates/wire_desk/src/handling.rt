@@ -45,6 +45,8 @@ impl WireDesk {
         ensures progresses { OnOk result (Progresses k desk.old.board desk.new.board) }
         ensures roomy { OnOk result ((connection_at desk.new.board k).cause ≡ None → MOST_READ ≤ room (connection_at desk.new.board k)) }
         ensures agree { AllAgree desk.new.board desk.new.seat }
+        ensures none_comes { length desk.new.board.connections ≡ length desk.old.board.connections }
+        ensures sessions_stay { length desk.new.board.sessions ≡ length desk.old.board.sessions }
     {
         lines_progress();
         let mut more = true;
@@ -74,6 +76,8 @@ impl WireDesk {
         ensures set_up { OnOk result (IsSetUp leases.now desk.new self.new) }
         ensures progresses { OnOk result (Progresses k desk.old.board desk.new.board) }
         ensures agree { AllAgree desk.new.board desk.new.seat }
+        ensures none_comes { length desk.new.board.connections ≡ length desk.old.board.connections }
+        ensures sessions_stay { length desk.new.board.sessions ≡ length desk.old.board.sessions }
     {
         lines_progress();
         if desk.board.connection(k).has_ended() {
@@ -110,6 +114,8 @@ impl WireDesk {
         ensures proceeds { OnOk result (Proceeds desk.old.board desk.new.board) }
         ensures connections { OnOk result (length desk.new.board.connections ≡ length desk.old.board.connections) }
         ensures agree { AllAgree desk.new.board desk.new.seat }
+        ensures none_comes { length desk.new.board.connections ≡ length desk.old.board.connections }
+        ensures sessions_stay { length desk.new.board.sessions ≡ length desk.old.board.sessions }
     {
         ready_boards_allow();
         lines_progress();
@@ -151,6 +157,8 @@ fn take_piece(alloc: Global, desk: &mut LeaseDesk, k: usize) -> Result<Option<Ow
     ensures steady { IsSteady desk.new.board desk.new.seat }
     ensures progresses { OnOk result (Progresses k desk.old.board desk.new.board) }
     ensures agree { AllAgree desk.new.board desk.new.seat }
+    ensures none_comes { length desk.new.board.connections ≡ length desk.old.board.connections }
+    ensures sessions_stay { length desk.new.board.sessions ≡ length desk.old.board.sessions }
     ensures seat { desk.new.seat ≡ desk.old.seat }
 {
     boards_stay_ready();

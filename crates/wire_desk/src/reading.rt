@@ -54,6 +54,8 @@ impl WireDesk {
         ensures wired { OnOk result (IsWired desk.new.board (open_places self.new) (W.door wire.new) (W.link wire.new)) }
         ensures progresses { OnOk result (Progresses k desk.old.board desk.new.board) }
         ensures agree { AllAgree desk.new.board desk.new.seat }
+        ensures none_comes { length desk.new.board.connections ≡ length desk.old.board.connections }
+        ensures sessions_stay { length desk.new.board.sessions ≡ length desk.old.board.sessions }
         ensures exact { IfOk result (λ got. W.read_gives wire.old (connection_at desk.old.board k).number MOST_READ got wire.new) }
         ensures rest { self.new ≡ record self.old { unkept = self.new.unkept; buffer = self.new.buffer } }
     {
@@ -87,6 +89,8 @@ impl WireDesk {
         ensures progresses { OnOk result (Progresses k desk.old.board desk.new.board) }
         ensures roomy { OnOk result ((connection_at desk.new.board k).cause ≡ None → MOST_READ ≤ room (connection_at desk.new.board k)) }
         ensures agree { AllAgree desk.new.board desk.new.seat }
+        ensures none_comes { length desk.new.board.connections ≡ length desk.old.board.connections }
+        ensures sessions_stay { length desk.new.board.sessions ≡ length desk.old.board.sessions }
         ensures rest { self.new ≡ record self.old { unkept = self.new.unkept } }
     {
         lines_progress();
@@ -120,6 +124,8 @@ impl WireDesk {
         ensures progresses { OnOk result (Progresses k desk.old.board desk.new.board) }
         ensures roomy { OnOk result ((connection_at desk.new.board k).cause ≡ None → MOST_READ ≤ room (connection_at desk.new.board k)) }
         ensures agree { AllAgree desk.new.board desk.new.seat }
+        ensures none_comes { length desk.new.board.connections ≡ length desk.old.board.connections }
+        ensures sessions_stay { length desk.new.board.sessions ≡ length desk.old.board.sessions }
         ensures rest { self.new ≡ record self.old { unkept = self.new.unkept } }
     {
         lines_progress();
@@ -143,6 +149,8 @@ impl WireDesk {
         ensures progresses { OnOk result (Progresses k desk.old.board desk.new.board) }
         ensures held { OnOk result ((connection_at desk.new.board k).cause ≡ None → (connection_at desk.new.board k).held ≡ (connection_at desk.old.board k).held) }
         ensures agree { AllAgree desk.new.board desk.new.seat }
+        ensures none_comes { length desk.new.board.connections ≡ length desk.old.board.connections }
+        ensures sessions_stay { length desk.new.board.sessions ≡ length desk.old.board.sessions }
         ensures rest { self.new ≡ self.old }
     {
         lines_progress();
@@ -165,6 +173,8 @@ pub(crate) fn part(desk: &mut LeaseDesk, k: usize, cause: Cause) -> Result<(), N
     ensures steady { OnOk result (IsSteady desk.new.board desk.new.seat) }
     ensures progresses { OnOk result (Progresses k desk.old.board desk.new.board) }
     ensures agree { AllAgree desk.new.board desk.new.seat }
+    ensures none_comes { length desk.new.board.connections ≡ length desk.old.board.connections }
+    ensures sessions_stay { length desk.new.board.sessions ≡ length desk.old.board.sessions }
     ensures seat { desk.new.seat ≡ desk.old.seat }
 {
     part_session(desk, k, cause)
@@ -180,6 +190,8 @@ fn take_in(desk: &mut LeaseDesk, k: usize, bytes: &[u8]) -> Result<(), NoMemory>
     ensures steady { IsSteady desk.new.board desk.new.seat }
     ensures progresses { OnOk result (Progresses k desk.old.board desk.new.board) }
     ensures agree { AllAgree desk.new.board desk.new.seat }
+    ensures none_comes { length desk.new.board.connections ≡ length desk.old.board.connections }
+    ensures sessions_stay { length desk.new.board.sessions ≡ length desk.old.board.sessions }
     ensures seat { desk.new.seat ≡ desk.old.seat }
 {
     boards_stay_ready();

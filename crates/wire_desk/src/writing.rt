@@ -54,6 +54,8 @@ impl WireDesk {
         ensures on_wire { OnOk result (AreOnWire desk.new.board (W.door wire.new) (W.link wire.new)) }
         ensures progresses { OnOk result (ProgressesWriting k desk.old.board desk.new.board) }
         ensures agree { AllAgree desk.new.board desk.new.seat }
+        ensures none_comes { length desk.new.board.connections ≡ length desk.old.board.connections }
+        ensures sessions_stay { length desk.new.board.sessions ≡ length desk.old.board.sessions }
     {
         boards_go_on();
         sessions_proceed();
@@ -95,6 +97,8 @@ impl WireDesk {
         ensures apart { OnOk result (AreApart (open_places self.new)) }
         ensures progresses { OnOk result (ProgressesUnread desk.old.board desk.new.board) }
         ensures agree { AllAgree desk.new.board desk.new.seat }
+        ensures none_comes { length desk.new.board.connections ≡ length desk.old.board.connections }
+        ensures sessions_stay { length desk.new.board.sessions ≡ length desk.old.board.sessions }
         ensures rest { self.new ≡ record self.old { accepted = self.new.accepted; dialled = self.new.dialled } }
         ensures made { dialler.new ≡ record dialler.old { next = dialler.new.next } }
     {
@@ -125,6 +129,8 @@ impl WireDesk {
         ensures on_wire { OnOk result (AreOnWire desk.new.board (W.door wire.new) (W.link wire.new)) }
         ensures progresses { OnOk result (ProgressesUnread desk.old.board desk.new.board) }
         ensures agree { AllAgree desk.new.board desk.new.seat }
+        ensures none_comes { length desk.new.board.connections ≡ length desk.old.board.connections }
+        ensures sessions_stay { length desk.new.board.sessions ≡ length desk.old.board.sessions }
     {
         boards_go_on();
         lines_progress();
@@ -171,6 +177,8 @@ fn prepare(alloc: Global, desk: &mut LeaseDesk, k: usize) -> Result<(), NoMemory
     ensures written { IsWrittenAsBefore (connection_at desk.old.board k) (connection_at desk.new.board k) }
     ensures steady { IsSteady desk.new.board desk.new.seat }
     ensures agree { AllAgree desk.new.board desk.new.seat }
+    ensures none_comes { length desk.new.board.connections ≡ length desk.old.board.connections }
+    ensures sessions_stay { length desk.new.board.sessions ≡ length desk.old.board.sessions }
     ensures seat { desk.new.seat ≡ desk.old.seat }
 {
     boards_stay_ready();
@@ -257,6 +265,8 @@ fn end_behind(desk: &mut LeaseDesk, k: usize, stop: Stop) -> Result<(), NoMemory
     ensures steady { OnOk result (IsSteady desk.new.board desk.new.seat) }
     ensures progresses { OnOk result (Progresses k desk.old.board desk.new.board) }
     ensures agree { AllAgree desk.new.board desk.new.seat }
+    ensures none_comes { length desk.new.board.connections ≡ length desk.old.board.connections }
+    ensures sessions_stay { length desk.new.board.sessions ≡ length desk.old.board.sessions }
     ensures seat { desk.new.seat ≡ desk.old.seat }
 {
     lines_progress();

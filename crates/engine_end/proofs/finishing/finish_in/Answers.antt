@@ -9,6 +9,8 @@ returns-in-Ok-clause-finishes c =
     record {
       gathered = gathered;
       gathers = c.in-Ok.ensures.gathers;
+      agree = c.gather_records-gathered.ensures.agree;
+      settled = c.in-Ok.ensures.settled;
       leaves = subst (λ (added : List Record). IsLeftBy gathered.board c.args.desk.strays.items c.args.accepted added c.fill.result) c.in-Ok.ensures.added c.fill.ensures.left;
     }
 
@@ -18,5 +20,6 @@ returns-clause-finishes_short c =
     record {
       gathered = gathered;
       gathers = inr c.in-Err.ensures.stops;
+      agree = c.gather_records-gathered.ensures.agree;
       leaves = subst (λ (added : List Record). IsLeftBy gathered.board c.args.desk.strays.items c.args.accepted added c.fill-in-Err.result) c.new.ensures.items c.fill-in-Err.ensures.left;
     }

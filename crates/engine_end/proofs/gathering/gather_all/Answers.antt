@@ -1,5 +1,6 @@
-use Rattle.std.proofs.Common.{add-one, arith, ◌∙◌}
-use Rattle.engine_end.specs.Finishing.{GathersSome}
+use Rattle.std.proofs.Common.{add-one, arith, inl, inr, subst, ◌∙◌}
+use Rattle.std.proofs.lemmas.Bool.{cases_lt}
+use Rattle.engine_end.specs.Finishing.{GathersSome, HasAllOf}
 use Rattle.engine_end.proofs.Recorded.{on_err}
 use Rattle.engine_end.proofs.gathering.gather_all.Goals as goal
 
@@ -20,6 +21,10 @@ loop-s-preserved c =
     let now = c.in_ok-gather.ensures in
     record {
       turn = rw add-one (c.loop-s.desk, was.turn, now.gathers);
+      settled = λ s small. elim (cases_lt s c.loop-s.s) [
+        | inl less ↦ now.others s (λ same. omega arith) (was.settled s less)
+        | inr least ↦ subst (HasAllOf c.gather.new.desk) (omega arith) now.settled
+      ];
       steady = now.steady;
       goes_on = c.boards_go_on.ensures.further c.args.desk.now.board c.loop-s.desk.board c.gather.new.desk.board was.goes_on now.goes_on;
       connections = now.connections ∙ was.connections;

@@ -1,5 +1,6 @@
 use Rattle.std.proofs.Common.{◌≡◌, ℕ, ◌≤◌, ◌++◌, List, length, refl, sym, ap, subst, ◌∙◌, arith}
 use Rattle.catchup_pump.specs.declared.cursor.Cursor.{Cursor}
+use Rattle.engine_end.specs.Room.{Room}
 use Rattle.engine_loop.specs.Engines.{IsAtWork, IsOnline}
 use Rattle.engine_loop.specs.declared.engine.Engine.{Engine}
 use Rattle.session_desk.specs.Steps.{AreNoted}
@@ -43,7 +44,7 @@ returns-clause-work c = λ shared old new rest goes leases set_up was.
     }
 
 pub returns-clause-still : goal.returns-clause-still
-returns-clause-still c = λ old new door links goes count bytes first last dialler accepted was.
+returns-clause-still c = λ old new door links goes count bytes first last dialler accepted connections spare was.
     let places : open_places new.lines ≡ open_places old.lines = ap (λ (ks : List ℕ). ks ++ new.lines.dialled.items) first ∙ ap (λ (ks : List ℕ). old.lines.accepted.items ++ ks) last in
     record {
       wired = subst (λ (xs : List ℕ). IsWired new.sessions.desk.board xs door links) (sym places)
@@ -53,6 +54,11 @@ returns-clause-still c = λ old new door links goes count bytes first last diall
       apart = subst AreApart (sym places) was.apart;
       few_accepted = (let few = was.few_accepted in let count = ap (λ (ks : List ℕ). length ks) first in omega arith);
       few_dialled = (let few = was.few_dialled in let count = ap (λ (ks : List ℕ). length ks) last in let made = ap (λ (d : Dialler). d.made) dialler in omega arith);
+      came = (let came = was.came in let made = ap (λ (d : Dialler). d.made) dialler in omega arith);
+      spare = record {
+        for_sessions = (let most = was.spare.for_sessions in let sessions = goes.sessions in let room = ap (λ (r : Room). r.sessions) spare in omega arith);
+        for_connections = (let most = was.spare.for_connections in let dials = ap (λ (d : Dialler). d.most) dialler in let room = ap (λ (r : Room). r.connections) spare in omega arith);
+      };
     }
 
 pub returns-clause-noted : goal.returns-clause-noted
@@ -83,11 +89,14 @@ returns-clause-noted_online c = λ old new door links rest was. subst (λ (e : E
   apart = was.apart;
   few_accepted = was.few_accepted;
   few_dialled = was.few_dialled;
+  came = was.came;
+  spare = record { for_sessions = was.spare.for_sessions; for_connections = was.spare.for_connections };
 })
 
 pub returns-clause-known : goal.returns-clause-known
 returns-clause-known c = λ shared e before after old new knows was. record {
   agree = was.agree;
+  room = was.room;
   work = was.work;
   online = λ standing. (let online = was.online standing in record {
     wired = c.wires_stay_known.ensures.wired e.sessions.desk.board (open_places e.lines) before after old new knows online.wired;
@@ -96,5 +105,7 @@ returns-clause-known c = λ shared e before after old new knows was. record {
     apart = online.apart;
     few_accepted = online.few_accepted;
     few_dialled = online.few_dialled;
+    came = online.came;
+    spare = online.spare;
   });
 }

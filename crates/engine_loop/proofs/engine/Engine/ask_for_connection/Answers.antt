@@ -32,4 +32,17 @@ returns-in-New-clause-online g c =
       apart = subst AreApart (sym listed) apart;
       few_accepted = (let few = few_listed answer place old.accepted first was.few_accepted in let count = ap (λ (xs : List ℕ). length xs) told.listed in omega arith);
       few_dialled = (let few = was.few_dialled in let count = ap (λ (w : WireDesk). length w.dialled.items) c.accept.ensures.rest in omega arith);
+      came = (let came = was.came in let count = c.accept.ensures.one_comes in omega arith);
+      spare = record {
+        for_sessions = (let most = was.spare.for_sessions in let sessions = goes.sessions in omega arith);
+        for_connections = was.spare.for_connections;
+      };
+    }
+
+pub returns-in_err-answer-clause-room : goal.returns-in_err-answer-clause-room
+returns-in_err-answer-clause-room g c =
+    let was = c.requires.online in
+    record {
+      for_sessions = (let most = was.spare.for_sessions in let count = c.accept.ensures.sessions_stay in omega arith);
+      for_connections = (let came = was.came in let one = c.accept.ensures.one_comes in let most = was.spare.for_connections in let made = was.dialling.few in let due = c.requires.due in omega arith);
     }

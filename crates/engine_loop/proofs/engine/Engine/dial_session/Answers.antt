@@ -1,5 +1,5 @@
 use Rattle.std.proofs.Common.{◌++◌, ◌≤◌, ℕ, List, length, refl, sym, ap, subst, ◌∙◌, arith}
-use Rattle.engine_loop.proofs.Coming.{accepted_stays, few_dialled}
+use Rattle.engine_loop.proofs.Coming.{accepted_stays, few_came, few_dialled, most_stays}
 use Rattle.engine_loop.proofs.engine.Engine.dial_session.Goals as goal
 use Rattle.wire_desk.specs.Steps.{AreApart}
 use Rattle.wire_desk.specs.declared.desk.WireDesk.{WireDesk}
@@ -30,4 +30,17 @@ returns-clause-online g c =
       few_accepted = (let few = was.few_accepted in let count = ap (λ (xs : List ℕ). length xs) same in omega arith);
       few_dialled = (let few = few_dialled answer c.args.s old.moment c.until-until.result (length board.connections) old.sessions.desk c.dial.new.desk old.dialler c.dial.new.self last told.dials was.few_dialled in
           let count = ap (λ (xs : List ℕ). length xs) told.listed in omega arith);
+      came = few_came answer c.args.s old.moment c.until-until.result old.accepted old.sessions.desk c.dial.new.desk old.dialler c.dial.new.self told.dials c.dial.ensures.one_comes was.came;
+      spare = record {
+        for_sessions = (let most = was.spare.for_sessions in let sessions = told.proceeds.goes_on.sessions in omega arith);
+        for_connections = (let most = was.spare.for_connections in let dials = most_stays answer c.args.s old.moment c.until-until.result old.sessions.desk c.dial.new.desk old.dialler c.dial.new.self told.dials in omega arith);
+      };
+    }
+
+pub returns-in_err-dial-clause-room : goal.returns-in_err-dial-clause-room
+returns-in_err-dial-clause-room g c =
+    let was = c.requires.online in
+    record {
+      for_sessions = (let most = was.spare.for_sessions in let count = c.dial.ensures.sessions_stay in omega arith);
+      for_connections = (let came = was.came in let one = c.dial.ensures.one_comes in let most = was.spare.for_connections in let few = c.requires.work.few in let left = c.in_err-dial.ensures.err_due.left in omega arith);
     }

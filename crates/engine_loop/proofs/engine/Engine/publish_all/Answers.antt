@@ -10,5 +10,6 @@ loop-s-preserved c =
       work = now.work;
       online = λ door links at_first. now.online door links (was.online door links at_first);
       board = now.board ∙ was.board;
+      room = c.publish_session.ensures.room;
       failed = now.failed ∙ was.failed;
     }

@@ -17,6 +17,7 @@ loop-i-preserved g c =
       online = now.online;
       places = c.read_place.ensures.places ∙ was.places;
       door = c.read_place.ensures.door ∙ was.door;
+      room = c.read_place.ensures.room;
       failed = c.read_place.ensures.failed ∙ was.failed;
     }
 

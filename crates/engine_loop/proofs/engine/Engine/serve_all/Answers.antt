@@ -16,5 +16,6 @@ loop-i-preserved c =
       work = now.work;
       online = λ door links at_first. now.online door links (was.online door links at_first);
       libraries = c.serve_library.ensures.libraries ∙ was.libraries;
+      room = c.serve_library.ensures.room;
       failed = c.serve_library.ensures.failed ∙ was.failed;
     }

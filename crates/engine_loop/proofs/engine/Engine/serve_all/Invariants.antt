@@ -1,6 +1,7 @@
 use Rattle.std.proofs.Common.{◌≡◌, ◌+◌, ℕ, [], length}
 use Rattle.gate_io.specs.Wire.{Door, Link}
 use Rattle.lease_desk.specs.Desk.{InTurn}
+use Rattle.engine_end.specs.Room.{HasRoomFor}
 use Rattle.engine_loop.specs.Engines.{IsAtWork, IsOnline}
 use Rattle.engine_loop.specs.Turns.{ServesOne, serving_of}
 use Rattle.engine_loop.proofs.engine.Engine.serve_all.Given as goal
@@ -11,5 +12,6 @@ invariant-loop-i l = record {
   work : IsAtWork l.shared l.self;
   online : (door : Door) (links : ℕ → Link) → IsOnline l.initial.self door links → IsOnline l.self door links;
   libraries : length l.self.sessions.ends.items ≡ length l.initial.self.sessions.ends.items;
+  room : HasRoomFor l.self.sessions.desk.board l.self.spare;
   failed : l.self.failed ≡ l.initial.self.failed;
 }

@@ -36,4 +36,4 @@ returns-clause-online c = λ door links was.
     let run = c.requires.work.set_up.steady.run in
     let laws : Laws = record { quiet = c.boards_go_on.ensures.quiet; count = c.boards_go_on.ensures.count; ready = c.boards_stay_ready.ensures.happening } in
     let still = still_run laws run.before c.args.self.now.moment runs.happenings old.desk.board new.desk.board runs.all runs.reaches run.ready in
-    c.engines_stay.ensures.still c.args.self.now _ door links goes still.count still.bytes refl refl refl refl was
+    c.engines_stay.ensures.still c.args.self.now _ door links goes still.count still.bytes refl refl refl refl refl refl was

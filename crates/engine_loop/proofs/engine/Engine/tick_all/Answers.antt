@@ -10,5 +10,6 @@ loop-s-preserved c =
       work = now.work;
       online = λ door links at_first. now.online door links (was.online door links at_first);
       count = now.count ∙ was.count;
+      room = c.tick_session.ensures.room;
       failed = c.tick_session.ensures.failed ∙ was.failed;
     }

@@ -17,4 +17,4 @@ pub returns-clause-online : goal.returns-clause-online
 returns-clause-online c = λ door links was.
     let told = c.in_ok-tick.ensures in
     c.engines_stay.ensures.still c.args.self.now _ door links told.proceeds.goes_on
-    (c.none_comes.ensures.ticks c.args.s c.args.self.now.moment c.until-until.result c.args.self.now.sessions.desk c.tick.new.desk c.in_ok-tick.field-0 told.ticks) told.proceeds.bytes refl refl refl refl was
+    (c.none_comes.ensures.ticks c.args.s c.args.self.now.moment c.until-until.result c.args.self.now.sessions.desk c.tick.new.desk c.in_ok-tick.field-0 told.ticks) told.proceeds.bytes refl refl refl refl refl refl was

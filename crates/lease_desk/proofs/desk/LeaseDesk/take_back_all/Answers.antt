@@ -16,5 +16,6 @@ loop-s-preserved c =
       in_step = now.in_step;
       table = now.table ∙ was.table;
       goes_on = λ j. goes_on_further _ _ _ j (was.goes_on j) (now.goes_on j);
+      none_comes = now.none_comes ∙ was.none_comes;
       sessions = now.sessions ∙ was.sessions;
     }

@@ -9,5 +9,6 @@ invariant-loop-s l = record {
   in_step : IsInStep l.self.board l.self.seat;
   table : l.self.seat.table ≡ l.initial.self.seat.table;
   goes_on : (j : ℕ) → GoesOn l.initial.self.board l.self.board j;
+  none_comes : length l.self.board.connections ≡ length l.initial.self.board.connections;
   sessions : length l.self.board.sessions ≡ length l.initial.self.board.sessions;
 }
