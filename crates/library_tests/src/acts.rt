@@ -1,7 +1,6 @@
 //! Calls of a library and steps of an engine as data, and what each came to.
 ghost use Rattle.std.specs.Prelude.{◌<◌, ◌≤◌};
 
-use crate::application::{Application, Seen};
 use crate::engine::Engine;
 use crate::many;
 use crate::shared::Shared;
@@ -9,6 +8,7 @@ use catchup_pump::{Cursor, Pumped};
 use gate_io::NoMemory;
 use lease_core::{Command, Why, Word};
 use library_api::{AskError, HandRefusal, ReleaseRefusal, Released, SendRefusal, WaitKind};
+use library_play::{Application, Seen};
 use std::alloc::Global;
 use std::process::Abort;
 use std::test::Fail;

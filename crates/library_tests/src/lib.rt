@@ -4,8 +4,6 @@
 #[cfg(test)]
 mod acts;
 #[cfg(test)]
-mod application;
-#[cfg(test)]
 mod draw;
 #[cfg(test)]
 mod engine;

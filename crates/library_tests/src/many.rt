@@ -1,9 +1,9 @@
 //! Acts of both sides that belong together, and many of one kind.
-use crate::application::{Application, Seen};
 use crate::engine::Engine;
 use gate_io::NoMemory;
 use lease_core::{Command, Why};
 use lease_words::Sent;
+use library_play::{Application, Seen};
 use std::alloc::Global;
 
 /// Why requests are refused.

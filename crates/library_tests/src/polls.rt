@@ -1,9 +1,9 @@
 //! Polls, and what each finds.
 use crate::acts::{Act, Answer, follow};
-use crate::application::Seen;
 use catchup_pump::{Pumped, Stop};
 use lease_core::{Standing, Word};
 use library_api::{Released, SendRefusal};
+use library_play::Seen;
 use std::test::Fail;
 
 const FIRST: &[u8] = b"35=8\x0137=1\x01";

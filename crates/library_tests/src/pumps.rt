@@ -1,10 +1,10 @@
 //! Pumps, and where they stop.
 use crate::acts::{Act, Answer, follow, follow_with};
-use crate::application::Application;
 use crate::engine::Engine;
 use crate::many::{arrivals, hold, reads};
 use crate::shared::Shared;
 use catchup_pump::{Cursor, Pumped, Stop};
+use library_play::Application;
 use std::alloc::Global;
 use std::test::Fail;
 

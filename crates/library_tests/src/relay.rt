@@ -1,6 +1,5 @@
 //! An engine and a library in threads of their own: messages go one way and sends the other, while
 //! the engine takes sessions back and the library gives them back at random.
-use crate::application::{Application, Seen};
 use crate::draw::Draw;
 use crate::engine::Engine;
 use crate::shared::Shared;
@@ -8,6 +7,7 @@ use gate_io::Bytes;
 use lease_core::{Command, Why};
 use lease_words::Item;
 use library_api::SendRefusal;
+use library_play::{Application, Seen};
 use std::alloc::Global;
 use std::test::Fail;
 use std::thread;

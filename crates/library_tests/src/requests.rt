@@ -1,9 +1,9 @@
 //! Requests, and the word that all is done.
 use crate::acts::{Act, Answer, follow, follow_with};
-use crate::application::Seen;
 use crate::many::OWNED;
 use lease_core::{Command, Why};
 use library_api::AskError;
+use library_play::Seen;
 use std::test::Fail;
 
 fn asked(nr: u32, s: u16, from: u64) -> Answer {

@@ -2,11 +2,11 @@
 ghost use Rattle.std.specs.Prelude.{◌≡◌, ◌<◌, ◌≤◌, [], IfOk};
 ghost use Rattle.lease_words.specs.Views.{engine_at};
 
-use crate::application::Application;
 use crate::engine::Engine;
 use lease_core::{Command, Notice};
 use lease_words::{EngineSeat, Leases};
 use library_api::{LibraryEnds2, Links};
+use library_play::Application;
 use ring_links::{Head, Ring, Tail, ring};
 use std::alloc::Global;
 use std::test::Fail;

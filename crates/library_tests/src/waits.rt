@@ -1,10 +1,10 @@
 //! For what a library waited, and how long.
 use crate::acts::{Act, Answer, follow, follow_with};
-use crate::application::Seen;
 use crate::many::OWNED;
 use catchup_pump::{Pumped, Stop};
 use lease_core::{Standing, Word};
 use library_api::{AskError, HandRefusal, ReleaseRefusal, SendRefusal, WaitKind};
+use library_play::Seen;
 use std::test::Fail;
 
 const BODY: &[u8] = b"35=8\x0137=1\x01";

@@ -1,9 +1,10 @@
 //! The library's side.
-ghost use Rattle.std.specs.Prelude.{◌≡◌, ◌<◌};
+
+ghost use Rattle.std.specs.Prelude.{◌≡◌};
 
 use gate_io::{Bytes, NoMemory};
 use lease_core::{Command, Why, Word};
-use lease_words::Sent;
+use lease_words::{LibrarySeat, Sent};
 use library_api::{
     AskError, Event, HandRefusal, Library, LibraryEnds2, Links, ReleaseRefusal, Released,
     SendRefusal, WaitKind,
@@ -49,10 +50,10 @@ pub enum Seen {
     },
 }
 
-/// Library 1, what it is lent in each call, and the bytes of the last message.
+/// A library, what it is lent in each call, and the bytes of the last message.
 #[derive(Drop)]
 pub struct Application<'a> {
-    links: Links<'a>,
+    pub links: Links<'a>,
     library: Library,
     bytes: Bytes,
     ghost at_table: { library.ends.seat.table ≡ links.leases.now },
@@ -61,10 +62,12 @@ pub struct Application<'a> {
 }
 
 impl<'a> Application<'a> {
+    /// A library that has done nothing, and that may make as many requests as `asks` says.
     pub fn new(alloc: Global, links: Links<'a>, ends: LibraryEnds2, asks: u32) -> Application<'a>
         requires seat { ends.seat.table ≡ links.leases.now }
         requires tail { ends.tail.ring ≡ links.commands.now }
         requires head { ends.head.ring ≡ links.notices.now }
+        ensures { result.links ≡ links.entry }
     {
         Application {
             links,
@@ -73,15 +76,21 @@ impl<'a> Application<'a> {
         }
     }
 
-    pub fn request(&mut self, s: u16, from: u64) -> Result<u32, AskError> {
+    /// Requests a session from a position on, and answers the request's number.
+    pub fn request(&mut self, s: u16, from: u64) -> Result<u32, AskError>
+        ensures { self.new.links ≡ self.old.links }
+    {
         self.library.request(&self.links, s, from)
     }
 
+    /// The number of the request that is unanswered.
     pub fn asking(&self) -> Option<u32> {
         self.library.asking()
     }
 
-    pub fn poll(&mut self) -> Seen {
+    pub fn poll(&mut self) -> Seen
+        ensures { self.new.links ≡ self.old.links }
+    {
         match self.library.poll(&self.links) {
             Event::Nothing => Seen::Nothing,
             Event::NotYet { s, pos, published } => Seen::NotYet { s, pos, published },
@@ -124,7 +133,9 @@ impl<'a> Application<'a> {
         alloc: Global,
         s: u16,
         body: &[u8],
-    ) -> Result<Option<Result<Sent, SendRefusal>>, NoMemory> {
+    ) -> Result<Option<Result<Sent, SendRefusal>>, NoMemory>
+        ensures { self.new.links ≡ self.old.links }
+    {
         let copy = Vec::from_slice(alloc, body)?;
         Ok(match self.library.send(&self.links, s, copy) {
             Ok(sent) => Some(Ok(sent)),
@@ -133,19 +144,28 @@ impl<'a> Application<'a> {
         })
     }
 
-    pub fn release(&mut self, s: u16) -> Result<Released, ReleaseRefusal> {
+    pub fn release(&mut self, s: u16) -> Result<Released, ReleaseRefusal>
+        ensures { self.new.links ≡ self.old.links }
+    {
         self.library.release(&self.links, s)
     }
 
-    pub fn release_to(&mut self, s: u16, heir: u8) -> Result<Released, HandRefusal> {
+    pub fn release_to(&mut self, s: u16, heir: u8) -> Result<Released, HandRefusal>
+        ensures { self.new.links ≡ self.old.links }
+    {
         self.library.release_to(&self.links, s, heir)
     }
 
-    pub fn beat(&mut self) {
+    pub fn beat(&mut self)
+        ensures { self.new.links ≡ self.old.links }
+    {
         self.library.beat(&self.links);
     }
 
-    pub fn done(&mut self, finished: bool) -> Result<(), Full<Command>> {
+    /// Tells that it asks nothing more.
+    pub fn done(&mut self, finished: bool) -> Result<(), Full<Command>>
+        ensures { self.new.links ≡ self.old.links }
+    {
         self.library.done(&self.links, finished)
     }
 
@@ -153,5 +173,12 @@ impl<'a> Application<'a> {
     pub fn waited(&self) -> (WaitKind, u64) {
         let waited = self.library.waited();
         (waited.kind(), waited.count())
+    }
+
+    /// Its seat at the lease table, to be taken in.
+    pub fn into_seat(self) -> LibrarySeat
+        ensures { result.table ≡ self.entry.links.leases.now }
+    {
+        self.library.seat()
     }
 }
