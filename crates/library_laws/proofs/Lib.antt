@@ -1,0 +1,6 @@
+mod Quiet
+mod Stays
+mod Steps
+mod Told
+mod Served
+mod Turns

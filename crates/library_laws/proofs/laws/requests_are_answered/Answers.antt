@@ -1,0 +1,58 @@
+use Rattle.std.proofs.Common.{◌≡◌, List, [], ◌∷◌, ◌++◌, false, refl, sym, ap, subst, ◌∙◌}
+use Rattle.std.proofs.lemmas.List.{append-nil}
+use Rattle.std.proofs.lemmas.List.Elements.{All-head, All-tail}
+use Rattle.std.specs.List.{All, flat_map}
+use Rattle.lease_core.specs.declared.messages.Notice.{Notice}
+use Rattle.lease_desk.specs.Desk.{bodies_of, is_of_leases}
+use Rattle.library_desk.specs.declared.desk.Stray.{Stray}
+use Rattle.library_laws.specs.Replies.{KeepsReplies, answered_by, asked_by, replies_told, reply_of, stray_reply, stray_told}
+use Rattle.library_laws.proofs.Served.{RepliesStay, joined, served, unchanged}
+use Rattle.library_laws.proofs.Stays.{unasked}
+use Rattle.library_laws.proofs.Steps.{IsKept}
+use Rattle.library_laws.proofs.Turns.{records_handed_out, turn_made, turn_taken}
+use Rattle.library_laws.proofs.laws.requests_are_answered.Goals as goal
+use Rattle.switchboard.specs.Board.{Board, book_at}
+use Rattle.switchboard.specs.Happenings.{Happening, Reaches, reserves, shows}
+
+-- what happens aside, one after another
+ran_aside : goal.After-replies_stay → (happenings : List Happening) (old new : Board) → All (λ happening. is_of_leases happening ≡ false) happenings → Reaches happenings old new → KeepsReplies old new
+ran_aside c [] old new all same = subst (KeepsReplies old) (sym same) (unchanged old)
+ran_aside c (happening ∷ happenings) old new all reaches =
+    let aside = λ (h : Happening). is_of_leases h ≡ false in
+    joined old reaches.0 new (c.replies_stay.ensures.happening happening old reaches.0 (unasked happening (All-head aside happening happenings all)) reaches.1.0)
+    (ran_aside c happenings reaches.0 new (All-tail aside happening happenings all) reaches.1.1)
+
+kept : goal.After-replies_stay → IsKept RepliesStay
+kept c = record {
+  itself = λ desk. unchanged desk.board;
+  further = λ first second third. joined first.board second.board third.board;
+  gathers = λ s at until old new is.
+      let ended = is.reaches.1.1 in
+      joined old.board is.reaches.0 new.board (c.replies_stay.ensures.happening (reserves s) old.board is.reaches.0 refl is.reaches.1.0)
+      (subst (KeepsReplies is.reaches.0) (sym ended.1.1) (c.replies_stay.ensures.happening (shows s is.word (bodies_of is.items) at until) is.reaches.0 ended.0 refl ended.1.0));
+  aside = λ happenings old new all reaches seat. ran_aside c happenings old.board new.board all reaches;
+  joins = c.boards_stay_ready.ensures.further;
+}
+
+pub returns-clause-first : goal.returns-clause-first
+returns-clause-first c = λ config moment shared d desk engine library e from_one has.
+    let ends = engine.each _ e has in
+    let pushed : e.tail.pushed ≡ [] = ap (λ t. t.pushed) ends.tail in
+    let popped : e.head.popped ≡ [] = ap (λ h. h.popped) ends.head in
+    record {
+      each = ap (flat_map answered_by) pushed ∙ sym (ap (flat_map asked_by) popped);
+      told = λ s small. sym (ap (λ (ns : List Notice). replies_told library s (book_at d.desk.board s).entries ++ flat_map (reply_of s) ns) pushed ∙ append-nil (replies_told library s (book_at d.desk.board s).entries));
+      strays_are = ap (flat_map (stray_told library)) desk.strays ∙ sym (ap (flat_map (stray_reply _)) pushed);
+    }
+
+pub returns-clause-serves : goal.returns-clause-serves
+returns-clause-serves c = λ before library at until old new turn from_one is. served c.others_stay.ensures.session before (c.replies_stay.ensures.happening) library at until old new turn from_one is
+
+pub returns-clause-takes : goal.returns-clause-takes
+returns-clause-takes c = λ before. turn_taken c.others_stay.ensures.session before (kept c) (served c.others_stay.ensures.session before c.replies_stay.ensures.happening)
+
+pub returns-clause-turn : goal.returns-clause-turn
+returns-clause-turn c = λ before. turn_made c.others_stay.ensures.session before (kept c) (served c.others_stay.ensures.session before c.replies_stay.ensures.happening)
+
+pub returns-clause-hands_out : goal.returns-clause-hands_out
+returns-clause-hands_out c = λ before. records_handed_out c.others_stay.ensures.session before (kept c)
