@@ -1,18 +1,25 @@
-use Rattle.std.proofs.Common.{◌≡◌, ◌∷◌, List, Option, None, Some, sym, ap, subst, ◌∙◌}
+use Rattle.std.proofs.Common.{◌≡◌, ◌∷◌, List, Option, None, Some, length, sym, ap, subst, ◌∙◌, arith}
 use Rattle.std.specs.List.{slice_get}
 use Rattle.std.specs.Option.{MatchOption}
+use Rattle.connection_core.specs.Connection.{ConnectionState}
+use Rattle.engine_end.specs.Room.{Room}
 use Rattle.engine_start.specs.declared.ends.LibraryEnds.{LibraryEnds}
 use Rattle.gate_io.specs.MemWire.{door_of, link_at}
 use Rattle.engine_speed.proofs.gateway.open.Goals as goal
 
 pub returns-clause-over : goal.returns-clause-over
 returns-clause-over c =
-    let work = c.in_ok-engine.ensures.work in
+    let start = c.in_ok-engine.ensures in
+    let work = start.work in
     let wire = c.in_ok-wire.wire in
     record {
       agree = work.in_order.in_step.agree;
+      room = record {
+        for_sessions = (let room = ap (λ (r : Room). r.sessions) start.figures.spare in let count = start.sessions.count in omega arith);
+        for_connections = (let none = ap (λ (cs : List ConnectionState). length cs) start.sessions.first.connections in omega arith);
+      };
       work = λ standing. work;
-      online = λ standing. c.in_ok-engine.ensures.online (door_of wire) (link_at wire) c.in_ok-wire.ensures.accepted c.in_ok-wire.ensures.dialled;
+      online = λ standing. start.online (door_of wire) (link_at wire) c.in_ok-wire.ensures.accepted c.in_ok-wire.ensures.dialled;
     }
 
 -- what is said of the one that is there
