@@ -2,5 +2,9 @@ mod Quiet
 mod Stays
 mod Steps
 mod Told
+mod Ends
+mod Orders
 mod Served
+mod Going
+mod Fed
 mod Turns

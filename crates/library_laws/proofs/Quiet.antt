@@ -3,14 +3,13 @@ use Rattle.std.proofs.Common.{◌≡◌, ℕ, zero, suc, Bool, true, false, List
 use Rattle.std.proofs.lemmas.Grind.{flat_map-append}
 use Rattle.std.proofs.lemmas.List.{append-nil}
 use Rattle.std.specs.Prelude.{if◌then◌else◌}
-use Rattle.connection_core.specs.Outgoing.{Outgoing}
 use Rattle.lease_core.specs.Lines.{entries_after_hold, entries_after_sends, entries_after_standing, entries_after_timeout, entries_after_word, heir_named, is_news, news_count}
 use Rattle.lease_core.specs.Runs.{owes_hold}
-use Rattle.lease_core.specs.State.{last_lease, lease_of, state_of}
+use Rattle.lease_core.specs.State.{last_lease, state_of}
 use Rattle.lease_core.specs.Steps.{hold_entry, release_entry, send_entry, step, timeout_entry}
 use Rattle.lease_core.specs.declared.entry.Entry.{Entry}
 use Rattle.lease_core.specs.declared.entry.Entry.TheVariants.{Bind, Leave}
-use Rattle.lease_core.specs.declared.event.Event.TheVariants.{AdminSent, Arrives, Binds, Lapses, Leaves, Plans, Resets}
+use Rattle.lease_core.specs.declared.event.Event.TheVariants.{AdminSent, Arrives, Binds, Lapses, Plans, Resets}
 use Rattle.lease_core.specs.declared.messages.Notice.{Notice}
 use Rattle.lease_core.specs.declared.word.Standing.{Standing}
 use Rattle.lease_core.specs.declared.word.Standing.TheVariants.{Active, Released, Revoked}

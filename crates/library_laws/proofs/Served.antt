@@ -1,5 +1,5 @@
 -- One library is served, and all requests stay answered.
-use Rattle.std.proofs.Common.{◌≡◌, ◌≢◌, inl, inr, ℕ, zero, suc, ◌-◌, ◌<◌, ◌≤◌, true, List, [], ◌∷◌, ◌++◌, length, Option, Some, refl, sym, ap, subst, ◌∙◌, arith}
+use Rattle.std.proofs.Common.{◌≡◌, ◌≢◌, inl, inr, ℕ, ◌-◌, ◌<◌, ◌≤◌, true, List, [], ◌∷◌, ◌++◌, length, Some, refl, sym, ap, subst, ◌∙◌, arith}
 use Rattle.std.proofs.lemmas.Bool.{cases_eq}
 use Rattle.std.proofs.lemmas.List.{append-nil, append_assoc, length-set}
 use Rattle.std.proofs.lemmas.Option.{same_Some, slice_get_within}
@@ -13,7 +13,7 @@ use Rattle.lease_core.specs.declared.messages.Command.TheVariants.{Done, Request
 use Rattle.lease_core.specs.declared.messages.Notice.{Notice}
 use Rattle.lease_core.specs.declared.messages.Notice.TheVariants.{Refused}
 use Rattle.lease_core.specs.declared.messages.Reply.{Reply}
-use Rattle.lease_desk.specs.Desk.{InTurn, TakesBack, TakesBackFrom, bodies_of}
+use Rattle.lease_desk.specs.Desk.{TakesBack, TakesBackFrom, bodies_of}
 use Rattle.lease_desk.specs.declared.desk.LeaseDesk.{LeaseDesk}
 use Rattle.library_clock.specs.Watched.{Watched}
 use Rattle.library_desk.specs.Serving.{Answers as AnswersOf, AnswersRequest, Expires, PumpsTo, Replies, RepliesTo, Serves, Strays, cursor_at}
@@ -23,23 +23,12 @@ use Rattle.library_desk.specs.declared.ends.EngineEnds.{EngineEnds}
 use Rattle.library_desk.specs.declared.serving.LibTurn.{LibTurn}
 use Rattle.library_desk.specs.declared.serving.LibTurn.TheVariants.{Answered, Ended, NoCommand, NoRoom}
 use Rattle.library_laws.specs.Replies.{AllAreAnswered, AreAnswered, Ask, IsAnswered, KeepsReplies, answered_by, asked_by, is_unasked, replies_told, reply_of, reply_told, stray_reply, stray_told}
+use Rattle.library_laws.proofs.Ends.{ends_change, get_set_other, get_set_same}
 use Rattle.library_laws.proofs.Steps.{each_in_turn}
 use Rattle.library_laws.proofs.Told.{Answers, SameNotices, messages_more, one_more, refuses, replies, same_notices, stray_others, stray_own, told_others, told_own}
 use Rattle.session_book.specs.Book.{Book}
 use Rattle.switchboard.specs.Board.{Board, book_at, session_at, with_session}
 use Rattle.switchboard.specs.Happenings.{Happening, Happens, reserves, times_out}
-
-get_set_same : {X : Type 0} (xs : List X) (i : ℕ) (x : X) → i < length xs → slice_get (slice_set xs i x) i ≡ Some x
-get_set_same [] i x small = absurd (omega arith)
-get_set_same (y ∷ xs) zero x small = refl
-get_set_same (y ∷ xs) (suc i) x small = get_set_same xs i x (omega arith)
-
-get_set_other : {X : Type 0} (xs : List X) (i j : ℕ) (x : X) → j ≢ i → slice_get (slice_set xs i x) j ≡ slice_get xs j
-get_set_other [] i j x other = refl
-get_set_other (y ∷ xs) zero zero x other = absurd (other refl)
-get_set_other (y ∷ xs) zero (suc j) x other = refl
-get_set_other (y ∷ xs) (suc i) zero x other = refl
-get_set_other (y ∷ xs) (suc i) (suc j) x other = get_set_other xs i j x (λ same. other (ap suc same))
 
 -- the journals of the one tell the replies of the other
 abbrev pub RepliesStay : LeaseDesk → LeaseDesk → Type 0
@@ -135,20 +124,6 @@ module _ (others_stay : (s other : ℕ) (old new : Board) → other ≢ s → ne
       strays_are = was.strays_are ∙ sym (same.stray (length board.sessions));
     }
 
-    -- one library's ends become others, for which it is so, and so it is of each other library
-    ends_change : (board : Board) (strays : List Stray) (ends more : List EngineEnds) (library : ℕ) (b a : EngineEnds) → 1 ≤ library → slice_get ends (library - 1) ≡ Some b → more ≡ slice_set ends (library - 1) a
-        → ((other : ℕ) (e : EngineEnds) → other ≢ library → 1 ≤ other → slice_get ends (other - 1) ≡ Some e → IsAnswered before board strays other e) → IsAnswered before board strays library a
-        → AllAreAnswered before board strays more
-    ends_change board strays ends more library b a from_one found is others own = λ other e other_from_one has.
-        let at : slice_get (slice_set ends (library - 1) a) (other - 1) ≡ Some e = subst (λ (es : List EngineEnds). slice_get es (other - 1) ≡ Some e) is has in
-        elim (cases_eq other library) [
-          | inl same ↦ (
-              let here : slice_get (slice_set ends (library - 1) a) (library - 1) ≡ Some e = subst (λ n. slice_get (slice_set ends (library - 1) a) (n - 1) ≡ Some e) same at in
-              let are : a ≡ e = same_Some a e (sym (get_set_same ends (library - 1) a (slice_get_within ends (library - 1) b found)) ∙ here) in
-              subst (λ n. IsAnswered before board strays n e) (sym same) (subst (IsAnswered before board strays library) are own))
-          | inr different ↦ others other e different other_from_one (sym (get_set_other ends (library - 1) (other - 1) a (λ s. different (omega arith))) ∙ at)
-        ]
-
     -- sessions go on without a request
     pub board_goes_on : (old new : LibraryDesk) → KeepsReplies old.desk.board new.desk.board → new.strays.items ≡ old.strays.items → new.ends.items ≡ old.ends.items → AreAnswered before old → AreAnswered before new
     board_goes_on old new keeps strays ends was = λ library e from_one has.
@@ -166,7 +141,7 @@ module _ (others_stay : (s other : ℕ) (old new : Board) → other ≢ s → ne
         let own = was library b from_one found in
         let quiet = quiet_ends old.desk.board old.strays.items library b a (same_notices b.tail.pushed a.tail.pushed pushed) asks own in
         subst (λ (d : LibraryDesk). AllAreAnswered before d.desk.board d.strays.items new.ends.items) (sym rest)
-        (ends_change old.desk.board old.strays.items old.ends.items new.ends.items library b a from_one found ends (λ other e different other_from_one has. was other e other_from_one has) quiet)
+        (ends_change (IsAnswered before old.desk.board old.strays.items) old.ends.items new.ends.items library b a from_one found ends (λ other e different other_from_one has. was other e other_from_one has) quiet)
 
     pumped_to : (library s : ℕ) (old new : LibraryDesk) → 1 ≤ library → PumpsTo library s old new → AreAnswered before old → AreAnswered before new
     pumped_to library s old new from_one is was = elim is [
@@ -177,7 +152,7 @@ module _ (others_stay : (s other : ℕ) (old new : Board) → other ≢ s → ne
           ((cursor_at new.cursors.items s).at - (cursor_at old.cursors.items s).at) pumps.pushed)
           (ap (λ h. flat_map asked_by h.popped) pumps.head) own in
           subst (λ (d : LibraryDesk). AllAreAnswered before d.desk.board d.strays.items new.ends.items) (sym pumps.rest)
-          (ends_change old.desk.board old.strays.items old.ends.items new.ends.items library pumps.before pumps.after from_one pumps.found pumps.ends (λ other e different other_from_one has. was other e other_from_one has) quiet))
+          (ends_change (IsAnswered before old.desk.board old.strays.items) old.ends.items new.ends.items library pumps.before pumps.after from_one pumps.found pumps.ends (λ other e different other_from_one has. was other e other_from_one has) quiet))
       | inr same ↦ subst (AreAnswered before) (sym same.1) was
     ]
 
@@ -223,7 +198,7 @@ module _ (others_stay : (s other : ℕ) (old new : Board) → other ≢ s → ne
           strays_are = asks.strays_others other different ∙ ap (flat_map (stray_told other)) strays ∙ theirs.strays_are ∙ ap (λ n. flat_map (stray_reply n) e.tail.pushed) (sym count);
         } in
         subst (λ (d : LibraryDesk). AllAreAnswered before d.desk.board d.strays.items new.ends.items) (sym tells.rest)
-        (ends_change is.replied.desk.board is.replied.strays.items is.replied.ends.items new.ends.items library tells.before a from_one tells.found tells.ends others now)
+        (ends_change (IsAnswered before is.replied.desk.board is.replied.strays.items) is.replied.ends.items new.ends.items library tells.before a from_one tells.found tells.ends others now)
 
     answered_turn : (library : ℕ) (old new : LibraryDesk) (turn : LibTurn) → 1 ≤ library → AnswersOf library old new turn → AreAnswered before old → AreAnswered before new
     answered_turn library old new (NoRoom pushed taken) from_one looks was =

@@ -1,12 +1,11 @@
 -- What a gathering keeps, and all that happens besides but for what the leases do, each step of a turn keeps in which no library is served.
-use Rattle.std.proofs.Common.{◌≡◌, inl, inr, ℕ, zero, suc, Bool, true, false, List, [], ◌∷◌, ◌++◌, Option, None, Some, Result, Ok, Err, refl, sym, ap, subst, ◌∙◌}
-use Rattle.std.proofs.lemmas.List.Elements.{All-append, All-cons, All-head, All-nil, All-tail}
+use Rattle.std.proofs.Common.{◌≡◌, inl, inr, ℕ, zero, suc, ◌<◌, ◌≤◌, Bool, true, false, List, [], ◌∷◌, ◌++◌, Option, None, Some, Result, Ok, Err, refl, sym, ap, subst, ◌∙◌, arith}
+use Rattle.std.proofs.lemmas.List.Elements.{All-append, All-cons, All-nil}
 use Rattle.std.specs.Prelude.{if◌then◌else◌, nat_lt, slice_index_or}
 use Rattle.std.specs.List.{All}
 use Rattle.std.specs.Result.{result_ok}
 use Rattle.fix_fields.specs.Reading.{fields_of}
 use Rattle.fix_frame.specs.Cut.{CutPiece, garbled, good}
-use Rattle.gate_io.specs.Wire.{Link}
 use Rattle.gate_io.specs.declared.dials.Dialled.{Dialled}
 use Rattle.gate_io.specs.declared.dials.Dialled.TheVariants as dial
 use Rattle.gate_io.specs.declared.wires.Accepted.{Accepted}
@@ -24,9 +23,8 @@ use Rattle.session_desk.specs.declared.routes.Routes.{Routes}
 use Rattle.switchboard.specs.Board.{Board, book_at, connection_at, place_at}
 use Rattle.switchboard.specs.Happenings.{Happening, Happens, Reaches, accepts, answers, binds, binds_and_ends, dials, ends_bound, ends_unbound, gives, lapses, prepares, receives, takes, ticks, writes}
 use Rattle.wire_desk.specs.Dials.{DialsAs}
-use Rattle.wire_desk.specs.Steps.{AcceptsAs, Handles, HandlesAll, HandlesBody, HandlesNext, LeavesIfTardy, PartsBy, PartsIfNeeded, PreparesTo, Reads, ReadsAs, Sessions, StopsAt, TakesBytes, Writes, WritesAt, WritesInTurn, WritesSome, WrittenSoFar, cause_behind, sessions_of}
+use Rattle.wire_desk.specs.Steps.{AcceptsAs, Handles, HandlesAll, HandlesBody, HandlesNext, LeavesIfTardy, PartsBy, PartsIfNeeded, PreparesTo, Reads, ReadsAs, Sessions, StopsAt, WritesAt, WritesInTurn, WritesSome, WrittenSoFar, cause_behind, sessions_of}
 use Rattle.wire_desk.specs.declared.dialling.Dialler.{Dialler}
-use Rattle.wire_desk.specs.declared.written.Written.{Written}
 
 -- steps of one kind, one after another, of something
 pub each_in_turn : {T : Type 0} (Step : ℕ → T → T → Type 0) (Keeps : T → T → Type 0) → ((t : T) → Keeps t t) → ((a b c : T) → Keeps a b → Keeps b c → Keeps a c) → ((i : ℕ) (a b : T) → Step i a b → Keeps a b)
@@ -34,6 +32,13 @@ pub each_in_turn : {T : Type 0} (Step : ℕ → T → T → Type 0) (Keeps : T �
 each_in_turn Step Keeps itself further each zero old new same = subst (λ t. Keeps old t) (sym same) (itself old)
 each_in_turn Step Keeps itself further each (suc n) old new steps =
     further old steps.0 new (each_in_turn Step Keeps itself further each n old steps.0 steps.1) (each n steps.0 new steps.2)
+
+-- and where each step's place is below a count
+pub small_in_turn : {T : Type 0} (Step : ℕ → T → T → Type 0) (Keeps : T → T → Type 0) → ((t : T) → Keeps t t) → ((a b c : T) → Keeps a b → Keeps b c → Keeps a c) → (count : ℕ) → ((i : ℕ) (a b : T) → i < count → Step i a b → Keeps a b)
+    → (n : ℕ) → n ≤ count → (old new : T) → InTurn Step n old new → Keeps old new
+small_in_turn Step Keeps itself further count each zero within old new same = subst (λ t. Keeps old t) (sym same) (itself old)
+small_in_turn Step Keeps itself further count each (suc n) within old new steps =
+    further old steps.0 new (small_in_turn Step Keeps itself further count each n (omega arith) old steps.0 steps.1) (each n steps.0 new (omega arith) steps.2)
 
 abbrev IsAside : Happening → Type 0
 IsAside happening = is_of_leases happening ≡ false

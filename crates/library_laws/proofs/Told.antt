@@ -1,5 +1,5 @@
 -- Which notices answer nothing, and what one more that does adds.
-use Rattle.std.proofs.Common.{◌≡◌, ◌≢◌, ℕ, zero, suc, ◌<◌, ◌≤◌, ◌==◌, Bool, true, false, List, [], ◌∷◌, ◌++◌, refl, sym, ap, ◌∙◌}
+use Rattle.std.proofs.Common.{◌≡◌, ◌≢◌, ℕ, zero, suc, ◌<◌, ◌≤◌, ◌==◌, Bool, true, false, List, [], ◌∷◌, ◌++◌, refl, ap, ◌∙◌}
 use Rattle.std.proofs.lemmas.Bool.{eq-eqb, le-leb, lt-leb, ne_eqb}
 use Rattle.std.proofs.lemmas.Grind.{flat_map-append}
 use Rattle.std.proofs.lemmas.List.{append-nil}
@@ -14,7 +14,7 @@ use Rattle.lease_core.specs.declared.messages.Notice.TheVariants.{Granted, Messa
 use Rattle.lease_core.specs.declared.messages.Reply.{Reply}
 use Rattle.lease_core.specs.declared.messages.Reply.TheVariants as reply
 use Rattle.library_desk.specs.Serving.{notice_of}
-use Rattle.library_laws.specs.Replies.{Ask, answered_by, reply_of, reply_told, stray_reply}
+use Rattle.library_laws.specs.Replies.{answered_by, reply_of, reply_told, stray_reply}
 
 -- one element more
 pub one_more : {X A : Type 0} (f : X → List A) (xs : List X) (x : X) → flat_map f (xs ++ x ∷ []) ≡ flat_map f xs ++ f x

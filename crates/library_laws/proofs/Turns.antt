@@ -1,5 +1,5 @@
--- Behind each step of a turn the requests are answered.
-use Rattle.std.proofs.Common.{◌≡◌, ◌≢◌, inl, inr, ℕ, ◌+◌, ◌≤◌, List, [], length, sym, ap, subst, arith}
+-- What holds of the desk of libraries before a step of a turn holds behind it, where it stays as boards go on and as libraries are served.
+use Rattle.std.proofs.Common.{◌≡◌, inl, inr, ℕ, ◌+◌, ◌≤◌, List, [], length, sym, ap, subst, arith}
 use Rattle.std.specs.Prelude.{slice_index_or}
 use Rattle.engine_loop.specs.Engines.{until_of}
 use Rattle.engine_loop.specs.Turns.{AcceptsNext, AtWire, DialsSession, GivesTurn, HandsOut, MakesTurn, NotesSession, PublishesSession, Reading, ReadsIfStands, ServesOne, Serving, TakesTurn, TicksSession, WritesAll, at_wire, reading_of, serving_of, with_moment}
@@ -8,57 +8,58 @@ use Rattle.engine_loop.specs.declared.records.Taken.{Taken}
 use Rattle.engine_loop.specs.declared.records.Turn.{Turn}
 use Rattle.gate_io.specs.Wire.{Link}
 use Rattle.gate_io.specs.declared.wires.Accepted.{Accepted}
-use Rattle.lease_core.specs.declared.entry.Entry.{Entry}
 use Rattle.lease_core.specs.declared.record.Record.{Record}
 use Rattle.lease_desk.specs.Desk.{InTurn}
+use Rattle.lease_desk.specs.declared.desk.LeaseDesk.{LeaseDesk}
 use Rattle.library_desk.specs.Serving.{Serves}
 use Rattle.library_desk.specs.declared.desk.LibraryDesk.{LibraryDesk}
 use Rattle.library_desk.specs.declared.serving.LibTurn.{LibTurn}
-use Rattle.library_laws.specs.Replies.{AreAnswered, KeepsReplies}
-use Rattle.library_laws.proofs.Served.{RepliesStay, board_goes_on}
 use Rattle.library_laws.proofs.Steps.{IsKept, accepted_as, dialled_as, each_in_turn, read, ticked, written_in_turn}
-use Rattle.switchboard.specs.Board.{Board, book_at, session_at, with_session}
+use Rattle.switchboard.specs.Board.{Board}
 use Rattle.wire_desk.specs.Places.{open_places}
 use Rattle.wire_desk.specs.Steps.{written_so_far}
 
-module _ (others_stay : (s other : ℕ) (old new : Board) → other ≢ s → new ≡ with_session s (session_at new s) old → book_at new other ≡ book_at old other) (before : ℕ → List Entry) where
+module _ (Holds : LibraryDesk → Type 0) (R : Board → Board → Type 0) (goes_on : (old new : LibraryDesk) → R old.desk.board new.desk.board → new ≡ record old { desk = new.desk } → Holds old → Holds new) where
   -- what was so of the one engine is so of the other
   abbrev Stays : Engine → Engine → Type 0
-  Stays old new = AreAnswered before old.sessions → AreAnswered before new.sessions
+  Stays old new = Holds old.sessions → Holds new.sessions
 
   stays_itself : (e : Engine) → Stays e e
-  stays_itself e answered = answered
+  stays_itself e holds = holds
 
   step_further : (first second third : Engine) → Stays first second → Stays second third → Stays first third
-  step_further first second third one two answered = two (one answered)
+  step_further first second third one two holds = two (one holds)
 
   same_sessions : (old new : Engine) → new.sessions ≡ old.sessions → Stays old new
-  same_sessions old new same answered = subst (AreAnswered before) (sym same) answered
+  same_sessions old new same holds = subst Holds (sym same) holds
 
   engine_in_turn : (Step : ℕ → Engine → Engine → Type 0) (count : ℕ) (old new : Engine) → ((i : ℕ) (a b : Engine) → Step i a b → Stays a b) → InTurn Step count old new → Stays old new
   engine_in_turn Step count old new each steps = each_in_turn Step Stays stays_itself step_further each count old new steps
 
-  -- the board alone changes, by a step in which no library asks
-  board_alone : (old new : Engine) → KeepsReplies old.sessions.desk.board new.sessions.desk.board → new.sessions ≡ record (old.sessions) { desk = new.sessions.desk } → Stays old new
-  board_alone old new keeps rest = board_goes_on others_stay before old.sessions new.sessions keeps (ap (λ (d : LibraryDesk). d.strays.items) rest) (ap (λ (d : LibraryDesk). d.ends.items) rest)
+  -- the desk of leases alone changes
+  board_alone : (old new : Engine) → R old.sessions.desk.board new.sessions.desk.board → new.sessions ≡ record (old.sessions) { desk = new.sessions.desk } → Stays old new
+  board_alone old new goes rest = goes_on old.sessions new.sessions goes rest
 
-  module _ (g : IsKept RepliesStay) where
+  abbrev Kept : LeaseDesk → LeaseDesk → Type 0
+  Kept old new = R old.board new.board
+
+  module _ (g : IsKept Kept) where
     next_accepted : (answer : Accepted) (old new : AtWire) → AcceptsNext answer old new → Stays old.engine new.engine
     next_accepted answer old new is = elim is [
-      | inl asks ↦ board_alone old.engine new.engine (accepted_as RepliesStay g answer old.engine.moment old.engine.sessions.desk new.engine.sessions.desk asks.accepts) (ap (λ (e : Engine). e.sessions) asks.rest)
+      | inl asks ↦ board_alone old.engine new.engine (accepted_as Kept g answer old.engine.moment old.engine.sessions.desk new.engine.sessions.desk asks.accepts) (ap (λ (e : Engine). e.sessions) asks.rest)
       | inr none ↦ same_sessions old.engine new.engine (ap (λ (a : AtWire). a.engine.sessions) none.1.1)
     ]
 
     session_dialled : (s : ℕ) (old new : AtWire) → DialsSession s old new → Stays old.engine new.engine
     session_dialled s old new is = board_alone old.engine new.engine
-        (dialled_as RepliesStay g is.answer s old.engine.moment (until_of old.engine) old.engine.sessions.desk new.engine.sessions.desk old.engine.dialler new.engine.dialler is.dials) (ap (λ (e : Engine). e.sessions) is.rest)
+        (dialled_as Kept g is.answer s old.engine.moment (until_of old.engine) old.engine.sessions.desk new.engine.sessions.desk old.engine.dialler new.engine.dialler is.dials) (ap (λ (e : Engine). e.sessions) is.rest)
 
     session_ticked : (s : ℕ) (old new : Engine) → TicksSession s old new → Stays old new
-    session_ticked s old new is = board_alone old new (ticked RepliesStay g s old.moment (until_of old) old.sessions.desk new.sessions.desk is.end is.ticks) (ap (λ (e : Engine). e.sessions) is.rest)
+    session_ticked s old new is = board_alone old new (ticked Kept g s old.moment (until_of old) old.sessions.desk new.sessions.desk is.end is.ticks) (ap (λ (e : Engine). e.sessions) is.rest)
 
     one_read : (k : ℕ) (old new : Reading) → ReadsIfStands k old new → Stays old.engine new.engine
     one_read k old new is = elim is [
-      | inl reads ↦ board_alone old.engine new.engine (read RepliesStay g reads.answer _ k _ old.engine.moment (until_of old.engine) _ _ reads.reads) (ap (λ (e : Engine). e.sessions) reads.rest)
+      | inl reads ↦ board_alone old.engine new.engine (read Kept g reads.answer _ k _ old.engine.moment (until_of old.engine) _ _ reads.reads) (ap (λ (e : Engine). e.sessions) reads.rest)
       | inr none ↦ same_sessions old.engine new.engine (ap (λ (r : Reading). r.engine.sessions) none.1)
     ]
 
@@ -66,12 +67,12 @@ module _ (others_stay : (s other : ℕ) (old new : Board) → other ≢ s → ne
     session_noted s old new is = same_sessions old new (ap (λ (e : Engine). e.sessions) is.1)
 
     session_published : (s : ℕ) (old new : Engine) → PublishesSession s old new → Stays old new
-    session_published s old new is = board_alone old new (subst (KeepsReplies old.sessions.desk.board) (sym is.board) (g.itself old.sessions.desk)) (ap (λ (e : Engine). e.sessions) is.rest)
+    session_published s old new is = board_alone old new (subst (R old.sessions.desk.board) (sym is.board) (g.itself old.sessions.desk)) (ap (λ (e : Engine). e.sessions) is.rest)
 
     all_written : (links_old links_new : ℕ → Link) (old new : Engine) (bytes : ℕ) → WritesAll links_old links_new old new bytes → Stays old new
     all_written links_old links_new old new bytes is =
         let places = open_places old.lines in
-        board_alone old new (written_in_turn RepliesStay g places (length places) (written_so_far old.sessions.desk old.lines.unkept.items links_old 0)
+        board_alone old new (written_in_turn Kept g places (length places) (written_so_far old.sessions.desk old.lines.unkept.items links_old 0)
         (written_so_far new.sessions.desk old.lines.unkept.items links_new bytes) is.writes) (ap (λ (e : Engine). e.sessions) is.rest)
 
     turn_given : (old new : AtWire) (taken : Taken) (turn : Turn) → GivesTurn old new taken turn → Stays old.engine new.engine
@@ -84,7 +85,7 @@ module _ (others_stay : (s other : ℕ) (old new : Board) → other ≢ s → ne
     records_handed_out old new records is =
         step_further old is.noted new (engine_in_turn NotesSession (length old.sessions.desk.board.sessions) old is.noted session_noted is.notes) (same_sessions is.noted new (ap (λ (e : Engine). e.sessions) is.rest))
 
-    module _ (serves : (library at until : ℕ) (old new : LibraryDesk) (turn : LibTurn) → 1 ≤ library → Serves library at until old new turn → AreAnswered before old → AreAnswered before new) where
+    module _ (serves : (library at until : ℕ) (old new : LibraryDesk) (turn : LibTurn) → 1 ≤ library → Serves library at until old new turn → Holds old → Holds new) where
       one_served : (i : ℕ) (old new : Serving) → ServesOne (i + 1) old new → Stays old.engine new.engine
       one_served i old new is = serves (i + 1) old.engine.moment (until_of old.engine) old.engine.sessions new.engine.sessions is.turn (omega arith) is.serves
 

@@ -1,12 +1,13 @@
-use Rattle.std.proofs.Common.{◌≡◌, List, [], ◌∷◌, ◌++◌, false, refl, sym, ap, subst, ◌∙◌}
+use Rattle.std.proofs.Common.{◌≡◌, ℕ, List, [], ◌∷◌, ◌++◌, false, refl, sym, ap, subst, ◌∙◌}
 use Rattle.std.proofs.lemmas.List.{append-nil}
 use Rattle.std.proofs.lemmas.List.Elements.{All-head, All-tail}
 use Rattle.std.specs.List.{All, flat_map}
+use Rattle.lease_core.specs.declared.entry.Entry.{Entry}
 use Rattle.lease_core.specs.declared.messages.Notice.{Notice}
 use Rattle.lease_desk.specs.Desk.{bodies_of, is_of_leases}
-use Rattle.library_desk.specs.declared.desk.Stray.{Stray}
-use Rattle.library_laws.specs.Replies.{KeepsReplies, answered_by, asked_by, replies_told, reply_of, stray_reply, stray_told}
-use Rattle.library_laws.proofs.Served.{RepliesStay, joined, served, unchanged}
+use Rattle.library_desk.specs.declared.desk.LibraryDesk.{LibraryDesk}
+use Rattle.library_laws.specs.Replies.{AreAnswered, KeepsReplies, answered_by, asked_by, replies_told, reply_of, stray_reply, stray_told}
+use Rattle.library_laws.proofs.Served.{RepliesStay, board_goes_on, joined, served, unchanged}
 use Rattle.library_laws.proofs.Stays.{unasked}
 use Rattle.library_laws.proofs.Steps.{IsKept}
 use Rattle.library_laws.proofs.Turns.{records_handed_out, turn_made, turn_taken}
@@ -48,11 +49,14 @@ returns-clause-first c = λ config moment shared d desk engine library e from_on
 pub returns-clause-serves : goal.returns-clause-serves
 returns-clause-serves c = λ before library at until old new turn from_one is. served c.others_stay.ensures.session before (c.replies_stay.ensures.happening) library at until old new turn from_one is
 
+goes_on : goal.After-replies_stay → (before : ℕ → List Entry) → (old new : LibraryDesk) → KeepsReplies old.desk.board new.desk.board → new ≡ record old { desk = new.desk } → AreAnswered before old → AreAnswered before new
+goes_on c before old new keeps rest = board_goes_on c.others_stay.ensures.session before old new keeps (ap (λ (d : LibraryDesk). d.strays.items) rest) (ap (λ (d : LibraryDesk). d.ends.items) rest)
+
 pub returns-clause-takes : goal.returns-clause-takes
-returns-clause-takes c = λ before. turn_taken c.others_stay.ensures.session before (kept c) (served c.others_stay.ensures.session before c.replies_stay.ensures.happening)
+returns-clause-takes c = λ before. turn_taken (AreAnswered before) KeepsReplies (goes_on c before) (kept c) (served c.others_stay.ensures.session before c.replies_stay.ensures.happening)
 
 pub returns-clause-turn : goal.returns-clause-turn
-returns-clause-turn c = λ before. turn_made c.others_stay.ensures.session before (kept c) (served c.others_stay.ensures.session before c.replies_stay.ensures.happening)
+returns-clause-turn c = λ before. turn_made (AreAnswered before) KeepsReplies (goes_on c before) (kept c) (served c.others_stay.ensures.session before c.replies_stay.ensures.happening)
 
 pub returns-clause-hands_out : goal.returns-clause-hands_out
-returns-clause-hands_out c = λ before. records_handed_out c.others_stay.ensures.session before (kept c)
+returns-clause-hands_out c = λ before. records_handed_out (AreAnswered before) KeepsReplies (goes_on c before) (kept c)
