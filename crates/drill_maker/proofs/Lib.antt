@@ -1,0 +1,3 @@
+-- Lemmas.
+pub mod Lengths
+pub mod Ranges

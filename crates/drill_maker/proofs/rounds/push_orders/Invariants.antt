@@ -1,0 +1,6 @@
+use Rattle.std.proofs.Common.{◌≡◌, ◌++◌}
+use Rattle.drill_maker.specs.Drill.{for_each, order_steps}
+use Rattle.drill_maker.proofs.rounds.push_orders.Given as goal
+
+abbrev pub invariant-loop-c : goal.invariant-loop-c
+invariant-loop-c l = l.steps.items ≡ l.initial.steps.items ++ for_each 0 l.c (order_steps l.round)

@@ -1,0 +1,8 @@
+use Rattle.drill_maker.specs.Drill.{turn_steps}
+use Rattle.drill_maker.proofs.Ranges.{next_from_zero}
+use Rattle.drill_maker.proofs.steps.push_turns.Goals as goal
+
+pub loop-c-preserved : goal.loop-c-preserved
+loop-c-preserved c =
+    next_from_zero c.args.steps.now.items c.loop-c.steps.items _ c.loop-c._c turn_steps c.loop-c.invariant
+    c.in_ok-push.ensures.items

@@ -1,0 +1,3 @@
+-- The script of a drill.
+pub mod Bodies
+pub mod Drill
