@@ -1,9 +1,9 @@
 //! Rows of the clock, on connections that accept.
 
-use crate::facts::Fact::{Bound, Closed, Connection, Moment, Took, Writes};
-use crate::steps::Step::{At, Connect, Hears, Is, Turn};
-use crate::steps::follow;
-use crate::texts::T;
+use crate::follow::follow;
+use engine_play::Fact::{Bound, Closed, Connection, Moment, Took, Writes};
+use engine_play::Step::{At, Connect, Hears, Is, Turn};
+use engine_play::T;
 use session_core::Cause;
 use std::test::Fail;
 

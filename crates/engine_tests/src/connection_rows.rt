@@ -1,20 +1,19 @@
 //! Rows of connections that come, speak and end.
 
-use crate::application::Seen::{Granted, Nothing};
-use crate::facts::Fact::{
+use crate::follow::{follow, follow_within};
+use engine_play::Fact::{
     Accepts, Asked, Bound, Closed, Connection, Connections, Moment, Reads as ReadsAre, Serves,
     Took, TookText, Writes,
 };
-use crate::making::Limits;
-use crate::steps::Step::{
+use engine_play::Step::{
     Connect, Finishes, Hears, Is, Orders, Polls, Reads, Requests, Tells, Trickles, Turn,
 };
-use crate::steps::{Step, follow, follow_within};
-use crate::texts::T;
+use engine_play::{FEW, Limits, Step, T};
 use gate_io::{Accepted, WireGot};
 use lease_core::Entry;
 use lease_core::Entry::{Admin, Arrive, Bind, Leave};
 use library_desk::LibTurn::NoCommand;
+use library_play::Seen::{Granted, Nothing};
 use session_core::Cause;
 use std::test::Fail;
 
@@ -239,6 +238,7 @@ fn no_more_connections_are_asked_for_than_a_run_has(rt: HostRuntime) -> Result<(
     let limits = Limits {
         connections: 1,
         dials: 0,
+        ..FEW
     };
     let steps = [
         Connect,

@@ -1,18 +1,17 @@
 //! Rows of a session that dials.
 
-use crate::application::Seen::{Granted, Message, Nothing};
-use crate::facts::Fact::{
+use crate::follow::{follow_dialling, follow_within};
+use engine_play::Fact::{
     Accepts, Asked, Bound, Closed, Connection, Connections, Dialled, Reads as ReadsAre, Took,
     TookText, Writes,
 };
-use crate::making::Limits;
-use crate::steps::Step::{
+use engine_play::Step::{
     Answers, At, Connect, FailsWrite, Finishes, Hears, Holds, Is, Polls, Requests, Tells, Turn,
 };
-use crate::steps::{follow_dialling, follow_within};
-use crate::texts::T;
+use engine_play::{FEW, Limits, T};
 use gate_io::{Accepted, WireGot};
 use lease_core::Entry::{Admin, Bind, Leave};
+use library_play::Seen::{Granted, Message, Nothing};
 use session_core::Cause;
 use std::test::Fail;
 
@@ -203,10 +202,7 @@ fn an_answer_has_to_come_within_ten_seconds(rt: HostRuntime) -> Result<(), Fail>
 
 #[test]
 fn no_more_dials_are_made_than_a_run_has(rt: HostRuntime) -> Result<(), Fail> {
-    let limits = Limits {
-        connections: 8,
-        dials: 1,
-    };
+    let limits = Limits { dials: 1, ..FEW };
     let steps = [
         Answers,
         Answers,

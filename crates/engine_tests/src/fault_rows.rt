@@ -1,16 +1,16 @@
 //! Rows of calls at the wire that fail, are blocked or give a part.
 
-use crate::application::Seen::{Granted, Nothing};
-use crate::facts::Fact::{
+use crate::follow::follow;
+use engine_play::Fact::{
     Accepts, Asked, Bound, Closed, Connection, Connections, Reads as ReadsAre, Took, TookText,
     Writes,
 };
-use crate::steps::Step::{
+use engine_play::Step::{
     Blocks, Connect, FailsAccept, FailsRead, FailsWrite, Finishes, Hears, Is, Orders, Polls, Reads,
     Requests, Sends, Turn, Unblocks,
 };
-use crate::steps::follow;
 use gate_io::{Accepted, WireGot};
+use library_play::Seen::{Granted, Nothing};
 use session_core::Cause;
 use std::test::Fail;
 

@@ -1,17 +1,17 @@
 //! Rows of libraries that request sessions, have them and lose them.
 
-use crate::application::Seen::{Granted, Message, Nothing, Refused, Stale};
-use crate::facts::Fact::{Owner, Serves, Took, Writes};
-use crate::steps::Step::{
+use crate::follow::follow;
+use engine_play::Fact::{Owner, Serves, Took, Writes};
+use engine_play::Step::{
     At, Beats, Connect, GivesBack, HandsOn, Hears, Is, IsRefused, Orders, Polls, Reads, Requests,
     Sends, Tells, Turn,
 };
-use crate::steps::{Step, follow};
-use crate::texts::T;
+use engine_play::{Step, T};
 use lease_core::Entry::{Admin, Arrive, Bind};
 use lease_core::{Entry, Standing, Why, Word};
 use library_api::SendRefusal;
 use library_desk::LibTurn::{Answered, NoCommand};
+use library_play::Seen::{Granted, LeaseLost, Message, Nothing, Refused, Stale};
 use std::test::Fail;
 
 const BUYER: &str = "35=A|(1)98=0|108=30|";
@@ -279,6 +279,57 @@ fn a_beat_keeps_a_session(rt: HostRuntime) -> Result<(), Fail> {
         Turn,
         Is(Owner(0, 1, 1)),
         At(9_999),
+        Turn,
+        Is(Owner(0, 0, 1)),
+    ];
+    follow(&rt, rt.alloc(), &steps)
+}
+
+#[test]
+fn an_expired_library_keeps_no_session(rt: HostRuntime) -> Result<(), Fail> {
+    let steps = [
+        Requests(1, 0, 0, 1),
+        At(5_000),
+        Turn,
+        Is(Owner(0, 1, 1)),
+        Turn,
+        Is(Owner(0, 0, 1)),
+        Tells(
+            0,
+            &[
+                FIRST_GRANT,
+                Entry::Timeout {
+                    lease: 1,
+                    library: 1,
+                    count: 0,
+                },
+            ],
+        ),
+        Polls(
+            1,
+            LeaseLost {
+                s: 0,
+                lease: 1,
+                seen: REVOKED,
+            },
+        ),
+    ];
+    follow(&rt, rt.alloc(), &steps)
+}
+
+#[test]
+fn an_expired_library_that_beats_keeps_its_session(rt: HostRuntime) -> Result<(), Fail> {
+    let steps = [
+        Requests(1, 0, 0, 1),
+        At(5_000),
+        Turn,
+        FIRST_IS_GRANTED,
+        Turn,
+        Is(Owner(0, 1, 1)),
+        At(9_999),
+        Turn,
+        Is(Owner(0, 1, 1)),
+        At(10_000),
         Turn,
         Is(Owner(0, 0, 1)),
     ];

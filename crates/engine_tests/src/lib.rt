@@ -3,28 +3,20 @@
 #![tactic(auto)]
 
 #[cfg(test)]
-mod application;
-#[cfg(test)]
 mod clock_rows;
 #[cfg(test)]
 mod connection_rows;
 #[cfg(test)]
 mod dial_rows;
 #[cfg(test)]
-mod facts;
+mod end_rows;
 #[cfg(test)]
 mod fault_rows;
 #[cfg(test)]
-mod gateway;
+mod follow;
 #[cfg(test)]
 mod lease_rows;
 #[cfg(test)]
-mod making;
+mod limit_rows;
 #[cfg(test)]
 mod serving_rows;
-#[cfg(test)]
-mod steps;
-#[cfg(test)]
-mod tapped_wire;
-#[cfg(test)]
-mod texts;

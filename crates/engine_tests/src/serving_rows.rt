@@ -1,14 +1,15 @@
 //! Rows of libraries that catch up.
 
-use crate::application::Seen::{Granted, LeaseLost, Nothing};
-use crate::facts::Fact::{Owner, Reads as ReadsAre, Serves};
-use crate::steps::Step::{
-    At, Connect, Hears, Is, Orders, Passes, Polls, Reads, Requests, Turn, Turns,
+use crate::follow::follow;
+use engine_play::Fact::{Owner, Reads as ReadsAre, Serves};
+use engine_play::Step;
+use engine_play::Step::{
+    At, Connect, Hears, Is, IsDone, Orders, Passes, Polls, Reads, Requests, Turn, Turns,
 };
-use crate::steps::{Step, follow};
 use gate_io::WireGot;
 use lease_core::{Standing, Word};
-use library_desk::LibTurn::{Answered, NoCommand, NoRoom};
+use library_desk::LibTurn::{Answered, Ended, NoCommand, NoRoom};
+use library_play::Seen::{Granted, LeaseLost, Nothing};
 use std::test::Fail;
 
 const BUYER: &str = "35=A|(1)98=0|108=30|";
@@ -121,6 +122,21 @@ fn what_a_lost_lease_was_told_is_passed(rt: HostRuntime) -> Result<(), Fail> {
         ),
         Passes(1, 1, 0, 255),
         Polls(1, Nothing),
+    ];
+    follow(&rt, rt.alloc(), &steps)
+}
+
+#[test]
+fn a_library_says_that_it_is_done(rt: HostRuntime) -> Result<(), Fail> {
+    let steps = [
+        Requests(1, 0, 0, 1),
+        IsDone(1, true),
+        IsDone(2, false),
+        Turn,
+        Is(Serves([Answered { nr: 1 }, Ended { finished: false }, NoCommand])),
+        Turn,
+        Is(Serves([Ended { finished: true }, NoCommand, NoCommand])),
+        Is(Owner(0, 1, 1)),
     ];
     follow(&rt, rt.alloc(), &steps)
 }
