@@ -2,7 +2,9 @@
 
 use crate::plain_fields::{Place, read_plainly};
 use crate::texts::row_bytes;
-use fix_fields::{Builder, FieldError, Fields, check_body, data_tag_of, is_paired, put_field};
+use fix_fields::{
+    Builder, FieldError, Fields, check_body, data_tag_of, is_paired, put_field, put_tagged,
+};
 use rand_core::utils::NextWord;
 use rand_pcg::Pcg32;
 use std::alloc::{AllocError, Global};
@@ -105,7 +107,8 @@ fn a_field_is_put_behind_the_text(rt: HostRuntime) -> Result<(), Fail> {
     let mut text = row_bytes(rt.alloc(), "35=D|")?;
     put_field(&mut text, 999_999_999, b"a")?;
     put_field(&mut text, 1, b"")?;
-    let want = row_bytes(rt.alloc(), "35=D|999999999=a|1=|")?;
+    put_tagged(&mut text, b"58", b"b")?;
+    let want = row_bytes(rt.alloc(), "35=D|999999999=a|1=|58=b|")?;
     assert_eq!(rt; text, want);
     Ok(())
 }

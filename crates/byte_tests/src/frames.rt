@@ -3,8 +3,8 @@
 use crate::feeding::cut_parts;
 use crate::texts::row_bytes;
 use fix_frame::{
-    Cutter, FrameError, LEAST_LIMIT, LEAST_ROOM, LONGEST_BODY, LONGEST_FRAME, Piece, frame_len,
-    is_body, write_frame,
+    Cutter, FrameError, LEAST_LIMIT, LEAST_ROOM, LONGEST_BODY, LONGEST_FRAME, OwnedPiece, Piece,
+    frame_len, is_body, write_frame,
 };
 use std::alloc::Global;
 use std::process::Abort;
@@ -77,6 +77,48 @@ fn garbled_bytes_are_counted(rt: HostRuntime) -> Result<(), Fail> {
         assert_eq!(rt; sum, garbled);
         assert_eq!(rt; cutter.next(), Some(Piece::Good(&order)));
         assert_eq!(rt; cutter.next(), None);
+    }
+    Ok(())
+}
+
+/// Whether the piece in memory of its own is the one that is lent.
+fn is_same(taken: &Option<OwnedPiece>, lent: Option<Piece>) -> bool {
+    match (taken, lent) {
+        (None, None) => true,
+        (Some(OwnedPiece::Good(own)), Some(Piece::Good(body))) => own.as_slice() == body,
+        (Some(OwnedPiece::Garbled { length: own }), Some(Piece::Garbled { length })) => *own
+            == length,
+        _ => false,
+    }
+}
+
+/// A byte alone, a frame, one whose checksum is wrong, two bytes alone, a frame, and one that begins.
+const MIXED: &str =
+    "x8=FIX.4.4|9=5|35=0|10=163|8=FIX.4.4|9=5|35=0|10=164|||8=FIX.4.4|9=10|35=0|58=x|10=242|8=FIX.4.4|9=";
+
+#[test]
+fn taken_pieces_are_those_that_are_lent(rt: HostRuntime) -> Result<(), Fail> {
+    let short = row_bytes(rt.alloc(), "35=0|")?;
+    let long = row_bytes(rt.alloc(), "35=0|58=x|")?;
+    let mut lender = Cutter::new(rt.alloc(), LONGEST_FRAME)?;
+    let mut giver = Cutter::new(rt.alloc(), LONGEST_FRAME)?;
+    let bytes = row_bytes(rt.alloc(), MIXED)?;
+    assert!(rt; bytes.len() <= lender.room() && bytes.len() <= giver.room());
+    lender.feed(&bytes);
+    giver.feed(&bytes);
+    for wanted in [
+        Some(Piece::Garbled { length: 1 }),
+        Some(Piece::Good(&short)),
+        Some(Piece::Garbled { length: 26 }),
+        Some(Piece::Garbled { length: 1 }),
+        Some(Piece::Garbled { length: 1 }),
+        Some(Piece::Good(&long)),
+        None,
+    ] {
+        let lent = lender.next();
+        let taken = giver.take_next(rt.alloc())?;
+        assert_eq!(rt; lent, wanted);
+        assert!(rt; is_same(&taken, lent), "{taken:?} for {lent:?}");
     }
     Ok(())
 }

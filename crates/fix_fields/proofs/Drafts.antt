@@ -3,6 +3,7 @@ use Rattle.std.proofs.Common.{◌≡◌, ℕ, ◌<◌, ◌≤◌, false, List, [
 use Rattle.fix_fields.specs.Field.{Field, no_field, field_text, text_of, last_of, has_soh}
 use Rattle.fix_fields.specs.Body.{IsWritable, HasStatedLength, MayFollow, AllAfter}
 use Rattle.fix_fields.specs.Builder.{Draft, with_field, Holds}
+use Rattle.fix_fields.specs.declared.limits.TheConstants.{LAST_TAG}
 use Rattle.fix_fields.specs.Pairs.{is_data_of}
 use Rattle.fix_fields.specs.Reading.{fields_of}
 use Rattle.fix_fields.proofs.WholeBody.{fields_of-from}
@@ -21,7 +22,7 @@ pub AllAfter-push : (P : Field → Field → Type 0) (before : Field) (fields : 
 AllAfter-push P before [] field all more = (more, tt)
 AllAfter-push P before (first ∷ fields) field all more = (all.0, AllAfter-push P first fields field all.1 more)
 
-pub holds_more : (draft : Draft) (field : Field) (fields : List Field) → 1 ≤ field.tag → field.tag ≤ 999_999_999 → 0 < length field.value → (is_data_of draft.last field.tag ≡ false → has_soh field.value ≡ false) → Holds draft fields → Holds (with_field draft field) (fields ++ field ∷ [])
+pub holds_more : (draft : Draft) (field : Field) (fields : List Field) → 1 ≤ field.tag → field.tag ≤ LAST_TAG → 0 < length field.value → (is_data_of draft.last field.tag ≡ false → has_soh field.value ≡ false) → Holds draft fields → Holds (with_field draft field) (fields ++ field ∷ [])
 holds_more draft field fields from to filled plain holds =
     let last : IsWritable (last_of no_field fields) field = record {
       tag_from = from;

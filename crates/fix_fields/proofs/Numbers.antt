@@ -10,6 +10,7 @@ use Rattle.std.specs.Prelude.{decimal, ◌==◌}
 use Rattle.std.specs.Char.{is_ascii_digit, digit_value}
 use Rattle.std.specs.Str.{all_ascii_digits}
 use Rattle.std.specs.Str.Parse.{digits_value, AllDigits}
+use Rattle.fix_fields.specs.declared.limits.TheConstants.{LAST_TAG}
 use Rattle.fix_fields.specs.Number.{is_number, number_of, tag_of}
 
 -- std's words for digits and their value
@@ -94,7 +95,7 @@ number_of-from bytes n is =
 pub record IsTag (bytes : List ℕ) (tag : ℕ) : Type 0 where
   pub text : bytes ≡ decimal tag
   pub from : 1 ≤ tag
-  pub to : tag ≤ 999_999_999
+  pub to : tag ≤ LAST_TAG
 
 cond_some_of : (b : Bool) (o : Option ℕ) (n : ℕ) → cond b o None ≡ Some n → (b ≡ true) × (o ≡ Some n)
 cond_some_of true o n e = (refl, e)
@@ -122,7 +123,7 @@ IsTag-from bytes tag e =
       to = omega (arith, small, is.value);
     }
 
-pub tag_of-decimal : (tag : ℕ) → 1 ≤ tag → tag ≤ 999_999_999 → tag_of (decimal tag) ≡ Some tag
+pub tag_of-decimal : (tag : ℕ) → 1 ≤ tag → tag ≤ LAST_TAG → tag_of (decimal tag) ≡ Some tag
 unfolding tag_of
 tag_of-decimal tag from to =
     let fits : tag < 2 ^ 64 = omega arith in

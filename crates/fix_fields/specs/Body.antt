@@ -1,6 +1,7 @@
 -- The fields of a body, as a relation.
 use Rattle.std.specs.Prelude.{◌≡◌, ◌≢◌, ℕ, ◌≤◌, true, false, List, [], ◌∷◌, ◌++◌, length, Some}
 use Rattle.fix_fields.specs.Field.{Field, no_field, text_of, has_soh}
+use Rattle.fix_fields.specs.declared.limits.TheConstants.{LAST_TAG}
 use Rattle.fix_fields.specs.Number.{number_of}
 use Rattle.fix_fields.specs.Pairs.{is_data_of}
 
@@ -8,7 +9,7 @@ use Rattle.fix_fields.specs.Pairs.{is_data_of}
 -- value has bytes, and only a data field behind its length field may have SOH in it.
 pub record IsWritable (before field : Field) : Type 0 where
   pub tag_from : 1 ≤ field.tag
-  pub tag_to : field.tag ≤ 999_999_999
+  pub tag_to : field.tag ≤ LAST_TAG
   pub filled : field.value ≢ []
   pub plain : is_data_of before.tag field.tag ≡ false → has_soh field.value ≡ false
 

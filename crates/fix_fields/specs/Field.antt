@@ -11,9 +11,13 @@ pub record Field : Type 0 where
 abbrev pub no_field : Field
 no_field = record { tag = 0; value = [] }
 
--- `tag=value` and SOH: 61 is the code of `=`, and 1 that of SOH
+-- `tag=value` and SOH, with the tag as it is written: 61 is the code of `=`, and 1 that of SOH
+abbrev pub tagged_text : List ℕ → List ℕ → List ℕ
+tagged_text tag value = tag ++ (61 ∷ value) ++ (1 ∷ [])
+
+-- the same with the digits of the field's tag
 abbrev pub field_text : Field → List ℕ
-field_text field = decimal field.tag ++ (61 ∷ field.value) ++ (1 ∷ [])
+field_text field = tagged_text (decimal field.tag) field.value
 
 -- the texts of the fields, one after the other
 abbrev pub text_of : List Field → List ℕ

@@ -9,5 +9,6 @@ pub mod Laws
 pub mod Number
 pub mod Options
 pub mod Pairs
+pub mod Printed
 pub mod Reading
 pub mod Stamp

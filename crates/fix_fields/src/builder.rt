@@ -1,7 +1,9 @@
 ghost use Rattle.std.specs.Prelude.{◌≡◌, ◌<◌, ◌≤◌, [], ◌∷◌, ◌++◌, List, length, false, Ok, OnOk, OnErr};
 ghost use Rattle.fix_fields.specs.Field.{Field, no_field, has_soh};
 ghost use Rattle.fix_fields.specs.Pairs.{is_data_of};
+ghost use Rattle.fix_fields.specs.declared.limits.TheConstants.{LAST_TAG};
 
+use crate::limits::LAST_TAG;
 use crate::writing::put_field;
 use gate_io::NoMemory;
 use std::alloc::Global;
@@ -43,7 +45,7 @@ impl Builder {
     /// length field may have SOH in it. Without memory the body is as it was.
     pub fn field(&mut self, _alloc: Global, tag: u32, value: &[u8]) -> Result<(), NoMemory>
         requires tag_from { 1 ≤ tag }
-        requires tag_to { tag ≤ 999_999_999 }
+        requires tag_to { tag ≤ LAST_TAG }
         requires filled { 0 < length value.now }
         requires plain { is_data_of self.old.last tag ≡ false → has_soh value.now ≡ false }
         ensures ok { OnOk result (self.new ≡ with_field self.old (record { tag = tag; value = value.now })) }

@@ -1,5 +1,6 @@
-ghost use Rattle.std.specs.Prelude.{◌≡◌};
+ghost use Rattle.std.specs.Prelude.{◌≡◌, Some};
 ghost use Rattle.fix_fields.specs.declared.error.FieldError.TheVariants.{OutOfMemory};
+ghost use Rattle.fix_fields.specs.Printed.{error_text};
 
 use std::alloc::{AllocError, AllocFailed};
 use std::error::Error;
@@ -24,6 +25,8 @@ pub enum FieldError {
 }
 
 impl fmt::Display for FieldError {
+    ghost output = { λ e. Some (error_text e) };
+
     fn fmt<W: fmt::Write>(&self, f: &mut fmt::Formatter<W>) -> fmt::Result {
         match self {
             FieldError::NoEquals { at } => write!(f, "no = in the field at {at}"),

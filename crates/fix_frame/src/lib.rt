@@ -6,11 +6,11 @@
 #![tactic(auto)]
 
 mod cutter;
-mod held;
 pub mod laws;
 mod layout;
 mod look;
 mod ring;
+mod two_slices;
 mod write;
 
 pub use cutter::{Cutter, OwnedPiece, Piece};

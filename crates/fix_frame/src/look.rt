@@ -5,8 +5,8 @@ ghost use Rattle.fix_frame.specs.Frame.{number_of};
 ghost use Rattle.fix_frame.specs.Cut.{agrees, exactly, can_become, digits_at, fits, trailer};
 ghost use Rattle.fix_frame.specs.Look.{IsBehind, IsFront};
 
-use crate::held::Held;
 use crate::layout::{BODY_END, BODY_START, HEAD, MOST_DIGITS, SOH, TRAILER};
+use crate::two_slices::TwoSlices;
 
 /// What stands at the beginning of some bytes.
 pub(crate) enum Front {
@@ -26,7 +26,7 @@ struct LengthField {
 }
 
 /// What stands at the beginning of the bytes, where a frame has at most `limit` bytes.
-pub(crate) fn front_of(limit: usize, held: &Held) -> Front
+pub(crate) fn front_of(limit: usize, held: &TwoSlices) -> Front
     ensures { IsFront limit held.now result }
 {
     if !agrees(held, 0, HEAD) {
@@ -47,7 +47,7 @@ pub(crate) fn front_of(limit: usize, held: &Held) -> Front
 }
 
 /// The same for a body of `size` bytes that begins at `body`.
-fn behind_head(held: &Held, body: usize, size: usize) -> Front
+fn behind_head(held: &TwoSlices, body: usize, size: usize) -> Front
     requires least { 4 ≤ size }
     requires small { body + size < 2 ^ 32 }
     requires whole_head { body ≤ length held.now }
@@ -75,7 +75,7 @@ fn behind_head(held: &Held, body: usize, size: usize) -> Front
 }
 
 /// Whether the bytes from `at` on agree with the text, as far as both go.
-fn agrees(held: &Held, at: usize, text: &[u8]) -> bool
+fn agrees(held: &TwoSlices, at: usize, text: &[u8]) -> bool
     requires { at + length text.now < 2 ^ 64 }
     ensures { result ≡ agrees (exactly text.now) (drop at held.now) }
 {
@@ -91,7 +91,7 @@ fn agrees(held: &Held, at: usize, text: &[u8]) -> bool
 }
 
 /// Whether three digits and the byte that ends the field stand at `at`, as far as the bytes go.
-fn checksum_agrees(held: &Held, at: usize) -> bool
+fn checksum_agrees(held: &TwoSlices, at: usize) -> bool
     requires { at < 2 ^ 33 }
     ensures { result ≡ agrees trailer (drop at held.now) }
 {
@@ -107,7 +107,7 @@ fn checksum_agrees(held: &Held, at: usize) -> bool
 }
 
 /// The digits that stand at `at`, at most nine.
-fn length_field(held: &Held, at: usize) -> LengthField
+fn length_field(held: &TwoSlices, at: usize) -> LengthField
     requires { at < 2 ^ 32 }
     ensures count { result.count ≡ length (digits_at 9 (drop at held.now)) }
     ensures value { result.value ≡ number_of (digits_at 9 (drop at held.now)) }

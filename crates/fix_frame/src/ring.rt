@@ -5,7 +5,7 @@ ghost use Rattle.std.specs.Borrow.{sem};
 ghost use Rattle.fix_frame.specs.Store.{in_ring};
 ghost use Rattle.fix_frame.specs.Ring.{LendsFront};
 
-use crate::held::Held;
+use crate::two_slices::TwoSlices;
 use gate_io::NoMemory;
 use std::alloc::Global;
 use std::marker::Model;
@@ -49,15 +49,15 @@ impl Ring {
     }
 
     /// The bytes.
-    pub(crate) fn held(&self) -> Held<'_>
+    pub(crate) fn held(&self) -> TwoSlices<'_>
         ensures { result ≡ self.now.bytes }
     {
         let size = self.buffer.len();
         if self.length <= size - self.start {
-            Held::new(&self.buffer[self.start..self.start + self.length], &[])
+            TwoSlices::new(&self.buffer[self.start..self.start + self.length], &[])
         } else {
             let back = self.length - (size - self.start);
-            Held::new(&self.buffer[self.start..], &self.buffer[..back])
+            TwoSlices::new(&self.buffer[self.start..], &self.buffer[..back])
         }
     }
 

@@ -1,7 +1,9 @@
--- The command that words give.
+-- The command that words give, and how it is printed that they give none.
 use Rattle.std.specs.Prelude.{◌≡◌, ◌==◌, ℕ, Bool, false, not, List, [], ◌∷◌, codes, IsTrue}
 use Rattle.gateway_run.specs.declared.words.Chosen.{Chosen}
 use Rattle.gateway_run.specs.declared.words.Chosen.TheVariants.{Replay}
+use Rattle.gateway_run.specs.declared.words.WordsError.{WordsError}
+use Rattle.gateway_run.specs.declared.words.WordsError.TheVariants.{OutOfMemory, Usage}
 
 -- a word that may stand in a command: it isn't empty and doesn't begin with `-`
 abbrev pub is_word : List ℕ → Bool
@@ -20,3 +22,8 @@ Gives words (Replay path) = GivesReplay words path
 pub record HasCommand (words : List (List ℕ)) : Type 0 where
   pub chosen : Chosen
   pub gives : Gives words chosen
+
+-- the text of an error
+abbrev pub error_text : WordsError → List ℕ
+error_text OutOfMemory = codes "out of memory"
+error_text Usage = codes "the words give no command"

@@ -1,8 +1,8 @@
 //! The command that the words behind the program's name give.
 
-ghost use Rattle.std.specs.Prelude.{◌≡◌, ◌↔◌, IfOk, IfSome, IsErrOf, IsNone, IsTrue, codes, map, string_bytes};
+ghost use Rattle.std.specs.Prelude.{◌≡◌, ◌↔◌, IfOk, IfSome, IsErrOf, IsNone, IsTrue, Some, codes, map, string_bytes};
 ghost use Rattle.gateway_run.specs.declared.words.WordsError.TheVariants.{OutOfMemory};
-ghost use Rattle.gateway_run.specs.Words.{Gives, GivesReplay, HasCommand, is_word};
+ghost use Rattle.gateway_run.specs.Words.{Gives, GivesReplay, HasCommand, error_text, is_word};
 
 use gate_io::Label;
 use std::alloc::{AllocError, Global};
@@ -25,6 +25,8 @@ pub enum WordsError {
 }
 
 impl fmt::Display for WordsError {
+    ghost output = { λ e. Some (error_text e) };
+
     fn fmt<W: fmt::Write>(&self, f: &mut fmt::Formatter<W>) -> fmt::Result {
         match self {
             WordsError::OutOfMemory => write!(f, "out of memory"),

@@ -1,47 +1,41 @@
 -- The bodies of the session messages that are sent (FIX 4.4, volume 2, "Session Protocol", the messages' fields).
-use Rattle.std.specs.Prelude.{ℕ, ◌++◌, ◌∷◌, [], List, Bool, true, false, ◌||◌, if◌then◌else◌, codes, decimal, length, nat_eq, nat_le, take, Option, None, Some}
+use Rattle.std.specs.Prelude.{ℕ, ◌++◌, List, Bool, true, false, ◌||◌, if◌then◌else◌, codes, decimal, length, nat_eq, nat_le, take, Option, None, Some}
 use Rattle.std.specs.Cmp.Lexicographic.{pointwise}
+use Rattle.fix_fields.specs.Field.{tagged_text}
 use Rattle.session_core.specs.declared.acts.Admin.{Admin}
 use Rattle.session_core.specs.declared.acts.Admin.TheVariants.{Logon, Heartbeat, TestRequest, ResendRequest, Reject, Logout}
 use Rattle.session_core.specs.declared.admin_text.TheConstants.{LONGEST_KIND}
 
--- a field with its tag and `=` before its value; 1 is the code of SOH
-abbrev pub field_text : List ℕ → List ℕ → List ℕ
-field_text tag value = tag ++ (value ++ 1 ∷ [])
-
-abbrev pub number_field_text : List ℕ → ℕ → List ℕ
-number_field_text tag n = field_text tag (decimal n)
-
 -- Logon: no encryption, HeartBtInt (108), and ResetSeqNumFlag (141) where the numbers begin again
 unfoldable pub logon_text : ℕ → Bool → List ℕ
 logon_text heart reset =
-    let head = field_text (codes "35=") (codes "A") ++ field_text (codes "98=") (codes "0") ++ number_field_text (codes "108=") heart in
-    if reset then head ++ field_text (codes "141=") (codes "Y") else head
+    let head = tagged_text (codes "35") (codes "A") ++ tagged_text (codes "98") (codes "0") ++ tagged_text (codes "108") (decimal heart) in
+    if reset then head ++ tagged_text (codes "141") (codes "Y") else head
 
 -- Heartbeat: the TestReqID (112) where it answers a TestRequest
 unfoldable pub heartbeat_text : Option (List ℕ) → List ℕ
-heartbeat_text None = field_text (codes "35=") (codes "0")
-heartbeat_text (Some test) = field_text (codes "35=") (codes "0") ++ field_text (codes "112=") test
+heartbeat_text None = tagged_text (codes "35") (codes "0")
+heartbeat_text (Some test) = tagged_text (codes "35") (codes "0") ++ tagged_text (codes "112") test
 
 -- TestRequest: its own number is its TestReqID
 unfoldable pub test_request_text : ℕ → List ℕ
-test_request_text number = field_text (codes "35=") (codes "1") ++ number_field_text (codes "112=") number
+test_request_text number = tagged_text (codes "35") (codes "1") ++ tagged_text (codes "112") (decimal number)
 
 -- ResendRequest: the first and the last number that are asked for
 unfoldable pub resend_request_text : ℕ → ℕ → List ℕ
 resend_request_text begin last =
-    field_text (codes "35=") (codes "2") ++ number_field_text (codes "7=") begin ++ number_field_text (codes "16=") last
+    tagged_text (codes "35") (codes "2") ++ tagged_text (codes "7") (decimal begin) ++ tagged_text (codes "16") (decimal last)
 
 -- Reject: the number of the rejected message, the field, the message's type unless that is long, and the reason
 unfoldable pub reject_text : ℕ → ℕ → List ℕ → ℕ → List ℕ
 reject_text seq tag kind reason =
-    let head = field_text (codes "35=") (codes "3") ++ number_field_text (codes "45=") seq ++ number_field_text (codes "371=") tag in
-    (if nat_le (length kind) LONGEST_KIND then head ++ field_text (codes "372=") kind else head) ++ number_field_text (codes "373=") reason
+    let head = tagged_text (codes "35") (codes "3") ++ tagged_text (codes "45") (decimal seq) ++ tagged_text (codes "371") (decimal tag) in
+    (if nat_le (length kind) LONGEST_KIND then head ++ tagged_text (codes "372") kind else head) ++ tagged_text (codes "373") (decimal reason)
 
 -- Logout: its text, if it has one
 unfoldable pub logout_text : Option (List ℕ) → List ℕ
-logout_text None = field_text (codes "35=") (codes "5")
-logout_text (Some text) = field_text (codes "35=") (codes "5") ++ field_text (codes "58=") text
+logout_text None = tagged_text (codes "35") (codes "5")
+logout_text (Some text) = tagged_text (codes "35") (codes "5") ++ tagged_text (codes "58") text
 
 -- the body of a session message that is sent with this number
 abbrev pub admin_text : Admin → ℕ → List ℕ
@@ -54,7 +48,7 @@ admin_text (Logout text) number = logout_text text
 
 -- A body of what the clock alone sends: the bare Heartbeat's, or one that begins as a TestRequest's.
 abbrev pub is_tick_text : List ℕ → Bool
-is_tick_text body = pointwise nat_eq body (field_text (codes "35=") (codes "0")) || pointwise nat_eq (take 5 body) (field_text (codes "35=") (codes "1"))
+is_tick_text body = pointwise nat_eq body (tagged_text (codes "35") (codes "0")) || pointwise nat_eq (take 5 body) (tagged_text (codes "35") (codes "1"))
 
 -- each session message but a Reject
 abbrev pub is_session_entry : Admin → Bool

@@ -1,20 +1,19 @@
 //! The bodies of the session messages that are sent: the type field, and what follows the header.
 
-ghost use Rattle.std.specs.Prelude.{◌≡◌, ◌<◌, ◌≤◌, ◌^◌, ◌++◌, length, IfOk, OnOk};
+ghost use Rattle.std.specs.Prelude.{◌≡◌, ◌<◌, ◌≤◌, ◌^◌, ◌++◌, decimal, length, IfOk, OnOk};
+ghost use Rattle.fix_fields.specs.Field.{tagged_text};
 ghost use Rattle.fix_frame.specs.Frame.{IsBody};
 ghost use Rattle.session_core.specs.Tasks.{HasShortTexts, is_tick};
-ghost use Rattle.session_core.specs.Admin.{field_text, number_field_text, admin_text, is_tick_text, logon_text, heartbeat_text, test_request_text, resend_request_text, reject_text, logout_text};
+ghost use Rattle.session_core.specs.Admin.{admin_text, is_tick_text, logon_text, heartbeat_text, test_request_text, resend_request_text, reject_text, logout_text};
 
 use crate::acts::Admin;
+use fix_fields::put_tagged;
 use gate_io::{Bytes, NoMemory};
 use itoa::Buffer;
 use std::alloc::Global;
 
-/// The byte that ends a field.
-const SOH: u8 = 1;
-
 /// A type with more bytes isn't named in a Reject.
-pub(crate) const LONGEST_KIND: usize = 32;
+pub const LONGEST_KIND: usize = 32;
 
 /// The most bytes of the body of a session message.
 pub const LONGEST_ADMIN: usize = 266;
@@ -49,11 +48,11 @@ fn logon_body(alloc: Global, heart: u32, reset: bool) -> Result<Vec<u8>, NoMemor
     ensures range { heart < 2 ^ 32 }
 {
     let mut body = Vec::new(alloc);
-    put(&mut body, b"35=", b"A")?;
-    put(&mut body, b"98=", b"0")?;
-    put_number(&mut body, b"108=", heart as u64)?;
+    put_tagged(&mut body, b"35", b"A")?;
+    put_tagged(&mut body, b"98", b"0")?;
+    put_number(&mut body, b"108", heart as u64)?;
     if reset {
-        put(&mut body, b"141=", b"Y")?;
+        put_tagged(&mut body, b"141", b"Y")?;
     }
     Ok(body)
 }
@@ -63,9 +62,9 @@ fn heartbeat_body(alloc: Global, test: &Option<Bytes>) -> Result<Vec<u8>, NoMemo
     ensures { IfOk result (λ body. body.items ≡ heartbeat_text test.now) }
 {
     let mut body = Vec::new(alloc);
-    put(&mut body, b"35=", b"0")?;
+    put_tagged(&mut body, b"35", b"0")?;
     if let Some(test) = test {
-        put(&mut body, b"112=", test.as_slice())?;
+        put_tagged(&mut body, b"112", test.as_slice())?;
     }
     Ok(body)
 }
@@ -76,8 +75,8 @@ fn test_request_body(alloc: Global, number: u64) -> Result<Vec<u8>, NoMemory>
     ensures range { number < 2 ^ 64 }
 {
     let mut body = Vec::new(alloc);
-    put(&mut body, b"35=", b"1")?;
-    put_number(&mut body, b"112=", number)?;
+    put_tagged(&mut body, b"35", b"1")?;
+    put_number(&mut body, b"112", number)?;
     Ok(body)
 }
 
@@ -88,9 +87,9 @@ fn resend_request_body(alloc: Global, begin: u32, last: u32) -> Result<Vec<u8>, 
     ensures last { last < 2 ^ 32 }
 {
     let mut body = Vec::new(alloc);
-    put(&mut body, b"35=", b"2")?;
-    put_number(&mut body, b"7=", begin as u64)?;
-    put_number(&mut body, b"16=", last as u64)?;
+    put_tagged(&mut body, b"35", b"2")?;
+    put_number(&mut body, b"7", begin as u64)?;
+    put_number(&mut body, b"16", last as u64)?;
     Ok(body)
 }
 
@@ -109,13 +108,13 @@ fn reject_body(
 {
     let kind = kind.as_slice();
     let mut body = Vec::new(alloc);
-    put(&mut body, b"35=", b"3")?;
-    put_number(&mut body, b"45=", seq as u64)?;
-    put_number(&mut body, b"371=", tag as u64)?;
+    put_tagged(&mut body, b"35", b"3")?;
+    put_number(&mut body, b"45", seq as u64)?;
+    put_number(&mut body, b"371", tag as u64)?;
     if kind.len() <= LONGEST_KIND {
-        put(&mut body, b"372=", kind)?;
+        put_tagged(&mut body, b"372", kind)?;
     }
-    put_number(&mut body, b"373=", reason as u64)?;
+    put_number(&mut body, b"373", reason as u64)?;
     Ok(body)
 }
 
@@ -124,26 +123,18 @@ fn logout_body(alloc: Global, text: &Option<Bytes>) -> Result<Vec<u8>, NoMemory>
     ensures { IfOk result (λ body. body.items ≡ logout_text text.now) }
 {
     let mut body = Vec::new(alloc);
-    put(&mut body, b"35=", b"5")?;
+    put_tagged(&mut body, b"35", b"5")?;
     if let Some(text) = text {
-        put(&mut body, b"58=", text.as_slice())?;
+        put_tagged(&mut body, b"58", text.as_slice())?;
     }
     Ok(body)
 }
 
-/// Writes a field at the end; its tag is handed in with its `=`.
-fn put(body: &mut Vec<u8>, tag: &[u8], value: &[u8]) -> Result<(), NoMemory>
-    ensures { OnOk result (body.new.items ≡ body.old.items ++ field_text tag.now value.now) }
-{
-    body.extend_from_slice(tag)?;
-    body.extend_from_slice(value)?;
-    body.push(SOH)?;
-    Ok(())
-}
-
+/// Writes a field at the end whose value is a number.
 fn put_number(body: &mut Vec<u8>, tag: &[u8], n: u64) -> Result<(), NoMemory>
-    ensures { OnOk result (body.new.items ≡ body.old.items ++ number_field_text tag.now n) }
+    requires { length tag.now < 2 ^ 32 }
+    ensures { OnOk result (body.new.items ≡ body.old.items ++ tagged_text tag.now (decimal n)) }
 {
     let mut digits = Buffer::new();
-    put(body, tag, digits.format(n).as_bytes())
+    put_tagged(body, tag, digits.format(n).as_bytes())
 }

@@ -24,7 +24,7 @@ mod tasks;
 mod ticks;
 
 pub use acts::{Act, Admin, Effects, is_session_entry};
-pub use admin_text::{LONGEST_ADMIN, admin_body};
+pub use admin_text::{LONGEST_ADMIN, LONGEST_KIND, admin_body};
 pub use causes::Cause;
 pub use names::Names;
 pub use replies::{LONGEST_LOGOUT_TEXT, LONGEST_TEST};

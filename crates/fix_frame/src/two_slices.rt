@@ -6,24 +6,24 @@ use std::marker::Model;
 
 /// Bytes that lie in two slices, the front before the back.
 #[derive(Drop)]
-pub(crate) struct Held<'a> {
+pub(crate) struct TwoSlices<'a> {
     front: &'a [u8],
     back: &'a [u8],
 }
 
-impl<'a> Model for Held<'a> {
+impl<'a> Model for TwoSlices<'a> {
     ghost use Rattle.std.specs.Prelude.{List, ℕ, ◌++◌};
 
     ghost Value = { List ℕ };
 
-    ghost view = { λ h. h.front.now ++ h.back.now };
+    ghost view = { λ s. s.front.now ++ s.back.now };
 }
 
-impl<'a> Held<'a> {
-    pub(crate) fn new(front: &'a [u8], back: &'a [u8]) -> Held<'a>
+impl<'a> TwoSlices<'a> {
+    pub(crate) fn new(front: &'a [u8], back: &'a [u8]) -> TwoSlices<'a>
         ensures { result ≡ front.now ++ back.now }
     {
-        Held { front, back }
+        TwoSlices { front, back }
     }
 
     pub(crate) fn len(&self) -> usize
