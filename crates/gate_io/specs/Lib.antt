@@ -2,6 +2,7 @@ pub mod Counts
 pub mod Source
 pub mod FileSource
 pub mod Sink
+pub mod Plan
 pub mod Wire
 pub mod MemSource
 pub mod MemSink

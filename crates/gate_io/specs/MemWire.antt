@@ -1,6 +1,6 @@
-use Rattle.std.specs.Prelude.{◌≡◌, ℕ, ◌+◌, ◌==◌, ◌-◌, ◌<◌, ◌≤◌, Bool, false, ◌||◌, nat_le, List, [], ◌++◌, Option, None, Some, length, take, drop, map, min, max, slice_index_or, slice_set, if◌then◌else◌}
-use Rattle.std.specs.Option.{option_map}
+use Rattle.std.specs.Prelude.{◌≡◌, ℕ, ◌+◌, ◌-◌, ◌<◌, ◌≤◌, Bool, false, ◌||◌, nat_le, List, [], ◌++◌, Option, None, Some, length, take, drop, map, max, slice_index_or, slice_set, if◌then◌else◌}
 use Rattle.gate_io.specs.Counts.{one_more}
+use Rattle.gate_io.specs.Plan.{LinkPlan, DoorPlan, planned_read, planned_write, plan_after_write, planned_accept, planned_dial}
 use Rattle.gate_io.specs.Wire.{Link, Door}
 use Rattle.gate_io.specs.declared.wires.TheConstants.{FIRST_DIALLED}
 use Rattle.gate_io.specs.declared.wires.WireGot.{WireGot}
@@ -69,11 +69,13 @@ link_reserved n l = if l.closed then l else record l { room = max l.room n }
 abbrev pub without_room : LinkState → LinkState
 without_room l = record l { room = 0 }
 
--- what a read into this much room gives: a scripted failure; else as much as waits, and with nothing waiting the end
--- behind a finished input
+-- what a connection in memory answers next, which it tells
+abbrev pub link_plan_of : LinkState → LinkPlan
+link_plan_of l = record { finished = l.finished; read_fails = l.read_fails; room = l.room; fails_after = l.fails_after; blocks_after = l.blocks_after }
+
+-- what a read into this much room gives: as planned
 abbrev pub link_gives : LinkState → ℕ → WireGot
-link_gives l room =
-    if l.read_fails then got.Failed else if length l.left == 0 then (if l.finished then got.End else got.Blocked) else got.Bytes (min room (length l.left))
+link_gives l room = planned_read (link_plan_of l) l.left room
 
 -- the connection behind a read with that answer: a scripted failure is met once
 abbrev pub link_after_read : LinkState → WireGot → LinkState
@@ -82,41 +84,23 @@ link_after_read l got.End = record l { ends = one_more l.ends }
 link_after_read l got.Blocked = record l { read_blocks = one_more l.read_blocks }
 link_after_read l got.Failed = record l { read_fails = false; read_faults = one_more l.read_faults }
 
--- a scripted place, where there is one, is reached
-abbrev pub is_reached : Option ℕ → Bool
-is_reached None = false
-is_reached (Some after) = after == 0
-
--- as many of so many bytes as stand before a scripted place
-abbrev pub count_before : Option ℕ → ℕ → ℕ
-count_before None len = len
-count_before (Some after) len = min after len
-
--- how many of so many bytes are written: those before both scripted places, as far as there is room
-abbrev pub written_count : LinkState → ℕ → ℕ
-written_count l len = min (count_before l.fails_after (count_before l.blocks_after len)) l.room
-
--- what a write of this many bytes takes: at a scripted failure and with no room left it fails, at a scripted block it
--- is blocked
+-- what a write of this many bytes takes: as planned
 abbrev pub link_takes : LinkState → ℕ → WireWrote
-link_takes l len =
-    if is_reached l.fails_after || (l.room == 0) then wrote.Failed else if is_reached l.blocks_after then wrote.Blocked else wrote.Bytes (written_count l len)
+link_takes l len = planned_write (link_plan_of l) len
 
--- a scripted place is nearer by what was written
-abbrev pub place_after : ℕ → Option ℕ → Option ℕ
-place_after n place = option_map (λ after. after - n) place
+-- what a write with that answer leaves of the room and of both scripted places
+abbrev pub with_writes_planned : LinkPlan → LinkState → LinkState
+with_writes_planned plan l = record l { room = plan.room; fails_after = plan.fails_after; blocks_after = plan.blocks_after }
 
 -- the connection behind a write of the piece with that answer: a scripted failure is met once, a block stays
 abbrev pub link_after_write : LinkState → List ℕ → WireWrote → LinkState
-link_after_write l piece (wrote.Bytes n) =
-    record l { written = l.written ++ take n piece; room = l.room - n; fails_after = place_after n l.fails_after; blocks_after = place_after n l.blocks_after }
+link_after_write l piece (wrote.Bytes n) = with_writes_planned (plan_after_write (wrote.Bytes n) (link_plan_of l)) (record l { written = l.written ++ take n piece })
 link_after_write l piece wrote.Blocked = record l { write_blocks = one_more l.write_blocks }
-link_after_write l piece wrote.Failed =
-    record l { fails_after = if is_reached l.fails_after then None else l.fails_after; write_faults = one_more l.write_faults }
+link_after_write l piece wrote.Failed = with_writes_planned (plan_after_write wrote.Failed (link_plan_of l)) (record l { write_faults = one_more l.write_faults })
 
 -- what a connection in memory tells
 abbrev pub shown : LinkState → Link
-shown l = record { left = Some l.left; written = Some l.written; closed = l.closed; read_faults = l.read_faults; read_blocks = l.read_blocks; ends = l.ends; write_faults = l.write_faults; write_blocks = l.write_blocks }
+shown l = record { left = Some l.left; written = Some l.written; closed = l.closed; read_faults = l.read_faults; read_blocks = l.read_blocks; ends = l.ends; write_faults = l.write_faults; write_blocks = l.write_blocks; plan = Some (link_plan_of l) }
 
 -- whether a number is one of those of dialled connections
 abbrev pub is_of_dial : ℕ → Bool
@@ -144,8 +128,12 @@ pub record IsMade (w : WireState) (c : ℕ) : Type 0 where
 abbrev pub link_at : WireState → ℕ → Link
 link_at w c = shown (state_at w c)
 
+-- what it answers next that is asked for connections
+abbrev pub door_plan_of : WireState → DoorPlan
+door_plan_of w = record { coming = length w.links; answering = length w.taken; accept_fails = w.accept_fails }
+
 abbrev pub door_of : WireState → Door
-door_of w = record { accepted = w.accepted; dialled = w.dialled; listen_faults = w.listen_faults; accept_faults = w.accept_faults; dial_faults = w.dial_faults; idle_accepts = w.idle_accepts }
+door_of w = record { accepted = w.accepted; dialled = w.dialled; listen_faults = w.listen_faults; accept_faults = w.accept_faults; dial_faults = w.dial_faults; idle_accepts = w.idle_accepts; plan = Some (door_plan_of w) }
 
 -- what a listen gives: a scripted failure, else it is ready
 abbrev pub wire_listens : WireState → Listened
@@ -156,9 +144,9 @@ abbrev pub wire_after_listen : WireState → Listened → WireState
 wire_after_listen w listen.Failed = record w { listen_fails = false; listen_faults = one_more w.listen_faults }
 wire_after_listen w _ = w
 
--- what an accept gives: a scripted failure, else the next connection that waits
+-- what an accept gives: as planned
 abbrev pub wire_accepts : WireState → Accepted
-wire_accepts w = if w.accept_fails then accept.Failed else if w.accepted == length w.links then accept.Nothing else accept.New w.accepted
+wire_accepts w = planned_accept (door_plan_of w) w.accepted
 
 -- the wire behind an accept with that answer
 abbrev pub wire_after_accept : WireState → Accepted → WireState
@@ -166,9 +154,9 @@ wire_after_accept w (accept.New c) = record w { accepted = w.accepted + 1 }
 wire_after_accept w accept.Nothing = record w { idle_accepts = one_more w.idle_accepts }
 wire_after_accept w accept.Failed = record w { accept_fails = false; accept_faults = one_more w.accept_faults }
 
--- what a dial gives: the next connection that was made for dials, a failure where there is none
+-- what a dial gives: as planned
 abbrev pub wire_dials : WireState → Dialled
-wire_dials w = if w.dialled == length w.taken then dial.Failed else dial.New (FIRST_DIALLED + w.dialled)
+wire_dials w = planned_dial (door_plan_of w) w.dialled
 
 -- the wire behind a dial with that answer
 abbrev pub wire_after_dial : WireState → Dialled → WireState

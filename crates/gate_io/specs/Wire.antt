@@ -1,5 +1,6 @@
 use Rattle.std.specs.Prelude.{◌≡◌, ◌≢◌, ℕ, ◌+◌, ◌<◌, ◌≤◌, Bool, false, List, [], ◌++◌, Option, None, Some, IfSome, length, take, drop}
 use Rattle.gate_io.specs.Counts.{HasRisen}
+use Rattle.gate_io.specs.Plan.{LinkPlan, DoorPlan, planned_read, plan_after_read, planned_write, plan_after_write, planned_accept, plan_after_accept, planned_dial}
 use Rattle.gate_io.specs.declared.wires.TheConstants.{FIRST_DIALLED}
 use Rattle.gate_io.specs.declared.wires.WireGot.{WireGot}
 use Rattle.gate_io.specs.declared.wires.WireGot.TheVariants as got
@@ -24,6 +25,8 @@ pub record Link : Type 0 where
   pub ends : ℕ
   pub write_faults : ℕ
   pub write_blocks : ℕ
+  -- what it answers next, where the wire tells that
+  pub plan : Option LinkPlan
 
 -- what a wire tells beside its connections
 pub record Door : Type 0 where
@@ -35,6 +38,8 @@ pub record Door : Type 0 where
   pub accept_faults : ℕ
   pub dial_faults : ℕ
   pub idle_accepts : ℕ
+  -- what the wire answers next that is asked for connections, where it tells that
+  pub plan : Option DoorPlan
 
 -- no count of a connection falls
 pub record LinkGoesOn (old new : Link) : Type 0 where
@@ -93,6 +98,12 @@ ReadHasCause old new got.End = HasRisen old.ends new.ends
 ReadHasCause old new got.Blocked = HasRisen old.read_blocks new.read_blocks
 ReadHasCause old new got.Failed = HasRisen old.read_faults new.read_faults
 
+-- Where the bytes that are left and the plan are told, a read into this much room answers as planned, and the plan behind
+-- it is told.
+abbrev pub ReadsAsPlanned : Link → ℕ → WireGot → Link → Type 0
+ReadsAsPlanned old room answer new =
+    IfSome old.left (λ left. IfSome old.plan (λ plan. (answer ≡ planned_read plan left room) × (new.plan ≡ Some (plan_after_read plan))))
+
 -- a write of this many bytes takes at least one and no more than there are
 abbrev pub WireWroteWithin : ℕ → WireWrote → Type 0
 WireWroteWithin len (wrote.Bytes n) = (0 < n) × (n ≤ len)
@@ -113,18 +124,42 @@ WriteHasCause old new (wrote.Bytes n) = Unit {0}
 WriteHasCause old new wrote.Blocked = HasRisen old.write_blocks new.write_blocks
 WriteHasCause old new wrote.Failed = HasRisen old.write_faults new.write_faults
 
+-- Where the plan is told, a write of this many bytes answers as planned, and the plan behind it is told.
+abbrev pub WritesAsPlanned : Link → ℕ → WireWrote → Link → Type 0
+WritesAsPlanned old len answer new = IfSome old.plan (λ plan. (answer ≡ planned_write plan len) × (new.plan ≡ Some (plan_after_write answer plan)))
+
 -- A new connection has the number of those accepted before it. Nothing and Failed accept none, and each comes only
--- where its own count rose. No other count changes.
+-- where its own count rose. No other count changes, and the plan only by a failure that is met.
 abbrev pub Accepts : Door → Door → (ℕ → Link) → Accepted → Type 0
 Accepts old new links (accept.New c) = (c ≡ old.accepted) × (new ≡ record old { accepted = old.accepted + 1 }) × IsNew (links c)
 Accepts old new links accept.Nothing = (new ≡ record old { idle_accepts = new.idle_accepts }) × HasRisen old.idle_accepts new.idle_accepts
-Accepts old new links accept.Failed = (new ≡ record old { accept_faults = new.accept_faults }) × HasRisen old.accept_faults new.accept_faults
+Accepts old new links accept.Failed = (new ≡ record old { accept_faults = new.accept_faults; plan = new.plan }) × HasRisen old.accept_faults new.accept_faults
+
+-- A planned accept: the plan behind it is told, and the connection that is next is told as before.
+pub record IsPlannedAccept (plan : DoorPlan) (old new : Door) (links_old links_new : ℕ → Link) (answer : Accepted) : Type 0 where
+  pub answers : answer ≡ planned_accept plan old.accepted
+  pub behind : new.plan ≡ Some (plan_after_accept plan)
+  pub next_stays : links_new old.accepted ≡ links_old old.accepted
+
+-- Where the plan is told, an accept answers as planned.
+abbrev pub AcceptsAsPlanned : Door → Door → (ℕ → Link) → (ℕ → Link) → Accepted → Type 0
+AcceptsAsPlanned old new links_old links_new answer = IfSome old.plan (λ plan. IsPlannedAccept plan old new links_old links_new answer)
 
 -- A new connection has the first dialled number and on top of it the number of those dialled before it. Failed dials
 -- none, and comes only where its own count rose. No other count changes.
 abbrev pub Dials : Door → Door → (ℕ → Link) → Dialled → Type 0
 Dials old new links (dial.New c) = (c ≡ FIRST_DIALLED + old.dialled) × (new ≡ record old { dialled = old.dialled + 1 }) × IsNew (links c)
 Dials old new links dial.Failed = (new ≡ record old { dial_faults = new.dial_faults }) × HasRisen old.dial_faults new.dial_faults
+
+-- A planned dial: the plan stays, and the connection that is next is told as before.
+pub record IsPlannedDial (plan : DoorPlan) (old new : Door) (links_old links_new : ℕ → Link) (answer : Dialled) : Type 0 where
+  pub answers : answer ≡ planned_dial plan old.dialled
+  pub behind : new.plan ≡ Some plan
+  pub next_stays : links_new (FIRST_DIALLED + old.dialled) ≡ links_old (FIRST_DIALLED + old.dialled)
+
+-- Where the plan is told, a dial answers as planned.
+abbrev pub DialsAsPlanned : Door → Door → (ℕ → Link) → (ℕ → Link) → Dialled → Type 0
+DialsAsPlanned old new links_old links_new answer = IfSome old.plan (λ plan. IsPlannedDial plan old new links_old links_new answer)
 
 -- listening fails only where its count rose; want of memory raises none, and no other count changes
 abbrev pub Listens : Door → Door → Listened → Type 0

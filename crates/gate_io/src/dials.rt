@@ -1,5 +1,5 @@
 ghost use Rattle.std.specs.Prelude.{◌≡◌, ◌+◌, ℕ, List};
-ghost use Rattle.gate_io.specs.Wire.{DoorGoesOn, LinkGoesOn, OthersStay, Dials};
+ghost use Rattle.gate_io.specs.Wire.{DoorGoesOn, LinkGoesOn, OthersStay, Dials, DialsAsPlanned};
 
 use crate::wires::{FIRST_DIALLED, Wire};
 
@@ -25,6 +25,7 @@ pub trait Dial: Wire {
     fn dial(&mut self, address: &str) -> Dialled
         ensures dials { Dials (Self.door self.old) (Self.door self.new) (Self.link self.new) result }
         ensures exact { dial_gives self.old address.now result self.new }
+        ensures planned { DialsAsPlanned (Self.door self.old) (Self.door self.new) (Self.link self.old) (Self.link self.new) result }
         ensures door_goes_on { DoorGoesOn (Self.door self.old) (Self.door self.new) }
         ensures goes_on { LinkGoesOn (Self.link self.old (FIRST_DIALLED + (Self.door self.old).dialled)) (Self.link self.new (FIRST_DIALLED + (Self.door self.old).dialled)) }
         ensures others_stay { OthersStay (Self.link self.old) (Self.link self.new) (FIRST_DIALLED + (Self.door self.old).dialled) };

@@ -1,6 +1,7 @@
 ghost use Rattle.std.specs.Prelude.{◌≡◌, ◌<◌, ◌≤◌, ℕ, None, Some, true, false, length, take, OnOk, OnErr};
-ghost use Rattle.gate_io.specs.MemWire.{LinkState, new_link, link_given, link_reserved, without_room, link_gives, link_after_read, link_takes, link_after_write, written_count, shown};
-ghost use Rattle.gate_io.specs.Wire.{LinkGoesOn};
+ghost use Rattle.gate_io.specs.MemWire.{LinkState, new_link, link_given, link_reserved, without_room, link_gives, link_after_read, link_plan_of, link_takes, link_after_write, shown};
+ghost use Rattle.gate_io.specs.Plan.{planned_count};
+ghost use Rattle.gate_io.specs.Wire.{LinkGoesOn, ReadsAsPlanned, WritesAsPlanned};
 
 use crate::no_memory::NoMemory;
 use crate::places::Place;
@@ -127,6 +128,7 @@ impl MemLink {
         ensures answer { result ≡ link_gives self.old (length buf.old) }
         ensures after { self.new ≡ link_after_read self.old result }
         ensures goes_on { LinkGoesOn (shown self.old) (shown self.new) }
+        ensures planned { ReadsAsPlanned (shown self.old) (length buf.old) result (shown self.new) }
         ensures front { (n : ℕ) → result ≡ WireGot.Bytes n → take n buf.new ≡ take n (self.old).left }
     {
         if self.read_fails {
@@ -154,6 +156,7 @@ impl MemLink {
         ensures answer { result ≡ link_takes self.old (length piece.now) }
         ensures after { self.new ≡ link_after_write self.old piece.now result }
         ensures goes_on { LinkGoesOn (shown self.old) (shown self.new) }
+        ensures planned { WritesAsPlanned (shown self.old) (length piece.now) result (shown self.new) }
         ensures some { (n : ℕ) → result ≡ WireWrote.Bytes n → (0 < n) × (n ≤ length piece.now) }
     {
         if self.fails.is_reached() || self.room == 0 {
@@ -175,7 +178,7 @@ impl MemLink {
 
     /// How many of so many bytes are written: those before both places, as far as there is room.
     fn written_count(&self, len: usize) -> usize
-        ensures { result ≡ written_count self.now len }
+        ensures { result ≡ planned_count (link_plan_of self.now) len }
     {
         self.fails
             .count_before(self.blocks.count_before(len))

@@ -1,5 +1,5 @@
 ghost use Rattle.std.specs.Prelude.{◌≡◌, ◌≤◌, None, Some, if◌then◌else◌};
-ghost use Rattle.gate_io.specs.MemWire.{count_before, is_reached, place_after};
+ghost use Rattle.gate_io.specs.Plan.{count_before, is_reached, place_after};
 
 use std::marker::Model;
 

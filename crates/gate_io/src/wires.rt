@@ -1,5 +1,5 @@
 ghost use Rattle.std.specs.Prelude.{◌≡◌, ◌<◌, ◌≤◌, ℕ, List, Option, length, true};
-ghost use Rattle.gate_io.specs.Wire.{Link, Door, LinkGoesOn, DoorGoesOn, OthersStay, IsOpen, WireGotWithin, WireGivesFrom, ReadHasCause, WireWroteWithin, WireTakesFrom, WriteHasCause, Accepts, Listens};
+ghost use Rattle.gate_io.specs.Wire.{Link, Door, LinkGoesOn, DoorGoesOn, OthersStay, IsOpen, WireGotWithin, WireGivesFrom, ReadHasCause, ReadsAsPlanned, WireWroteWithin, WireTakesFrom, WriteHasCause, WritesAsPlanned, Accepts, AcceptsAsPlanned, Listens};
 
 /// The most connections that one run accepts. They have the numbers from 0 on.
 pub const MOST_CONNECTIONS: u32 = 1024;
@@ -103,6 +103,7 @@ pub trait Wire {
         requires { (door self.old).accepted < MOST_CONNECTIONS }
         ensures accepts { Accepts (door self.old) (door self.new) (link self.new) result }
         ensures exact { accept_gives self.old result self.new }
+        ensures planned { AcceptsAsPlanned (door self.old) (door self.new) (link self.old) (link self.new) result }
         ensures door_goes_on { DoorGoesOn (door self.old) (door self.new) }
         ensures goes_on { LinkGoesOn (link self.old (door self.old).accepted) (link self.new (door self.old).accepted) }
         ensures others_stay { OthersStay (link self.old) (link self.new) (door self.old).accepted };
@@ -113,6 +114,7 @@ pub trait Wire {
         ensures within { WireGotWithin (length buf.old) result }
         ensures content { WireGivesFrom (link self.old c).left result buf.new (link self.new c).left }
         ensures exact { read_gives self.old c (length buf.old) result self.new }
+        ensures planned { ReadsAsPlanned (link self.old c) (length buf.old) result (link self.new c) }
         ensures cause { ReadHasCause (link self.old c) (link self.new c) result }
         ensures written_stays { (link self.new c).written ≡ (link self.old c).written }
         ensures stays_open { IsOpen (door self.new) (link self.new) c }
@@ -126,6 +128,7 @@ pub trait Wire {
         ensures within { WireWroteWithin (length piece.now) result }
         ensures content { WireTakesFrom (link self.old c).written result piece.now (link self.new c).written }
         ensures exact { write_gives self.old c piece.now result self.new }
+        ensures planned { WritesAsPlanned (link self.old c) (length piece.now) result (link self.new c) }
         ensures cause { WriteHasCause (link self.old c) (link self.new c) result }
         ensures left_stays { (link self.new c).left ≡ (link self.old c).left }
         ensures stays_open { IsOpen (door self.new) (link self.new) c }
@@ -138,7 +141,9 @@ pub trait Wire {
         requires { IsOpen (door self.old) (link self.old) c }
         ensures closed { (link self.new c).closed ≡ true }
         ensures exact { close_gives self.old c self.new }
+        ensures left_stays { (link self.new c).left ≡ (link self.old c).left }
         ensures written_stays { (link self.new c).written ≡ (link self.old c).written }
+        ensures plan_stays { (link self.new c).plan ≡ (link self.old c).plan }
         ensures goes_on { LinkGoesOn (link self.old c) (link self.new c) }
         ensures door_stays { door self.new ≡ door self.old }
         ensures others_stay { OthersStay (link self.old) (link self.new) c };
