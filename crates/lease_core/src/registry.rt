@@ -358,7 +358,7 @@ impl Registry {
     #[tactic(auto, unfolding(crate::specs::Steps::why_refused))]
     fn why_refused(&self, library: u8, from: u64) -> Option<Why>
         ensures why { result ≡ why_refused self.now.leases (state_of self.now.entries) library from }
-        ensures left { IsNone result → lease_of (state_of self.now.entries) < 2 ^ 32 - 1 }
+        ensures next { IsNone result → lease_of (state_of self.now.entries) + 1 < 2 ^ 32 }
     {
         let totals = self.journal.totals();
         let owner = totals.owner();

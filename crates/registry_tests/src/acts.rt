@@ -47,7 +47,9 @@ pub enum Answer {
 }
 
 /// Makes the call where its conditions hold.
-pub fn play(registry: &mut Registry, act: Act) -> Result<Answer, NoMemory> {
+pub fn play(registry: &mut Registry, act: Act) -> Result<Answer, NoMemory>
+    ensures { registry.new.leases ≡ registry.old.leases }
+{
     let bound = registry.bound();
     let waits = registry.reserved().is_some();
     registry.reserve(2)?;
@@ -83,7 +85,9 @@ pub fn play(registry: &mut Registry, act: Act) -> Result<Answer, NoMemory> {
     })
 }
 
-fn play_show(registry: &mut Registry, w: Word, until: u64) -> Result<Answer, NoMemory> {
+fn play_show(registry: &mut Registry, w: Word, until: u64) -> Result<Answer, NoMemory>
+    ensures { registry.new.leases ≡ registry.old.leases }
+{
     reserve_for(registry, w)?;
     if !can_show(registry, w) {
         return Ok(Answer::Unlawful);
@@ -91,7 +95,9 @@ fn play_show(registry: &mut Registry, w: Word, until: u64) -> Result<Answer, NoM
     Ok(Answer::Of(registry.show(w, until)))
 }
 
-fn play_timeout(registry: &mut Registry, w: Word, until: u64) -> Result<Answer, NoMemory> {
+fn play_timeout(registry: &mut Registry, w: Word, until: u64) -> Result<Answer, NoMemory>
+    ensures { registry.new.leases ≡ registry.old.leases }
+{
     reserve_for(registry, w)?;
     if !can_time_out(registry, w) {
         return Ok(Answer::Unlawful);
@@ -102,6 +108,7 @@ fn play_timeout(registry: &mut Registry, w: Word, until: u64) -> Result<Answer, 
 /// Makes room for what the word shows.
 fn reserve_for(registry: &mut Registry, w: Word) -> Result<(), NoMemory>
     ensures entries { registry.new.entries ≡ registry.old.entries }
+    ensures leases { registry.new.leases ≡ registry.old.leases }
     ensures room { OnOk result (missing_sends (lines_of registry.old.entries) w + 2 ≤ registry.new.spare) }
 {
     let missing = w.count.saturating_sub(registry.word().count);

@@ -6,7 +6,7 @@ use crate::draw::Draw;
 use crate::plain::{GiveUp, may_follow, state_of};
 use crate::random::Both;
 use gate_io::NoMemory;
-use lease_core::{Entry, Recovery, Registry, Reply, Standing, Why};
+use lease_core::{Entry, Recovery, Registry, Reply, Shown, Standing, Why};
 use std::alloc::Global;
 use std::process::Abort;
 use std::test::Fail;
@@ -187,6 +187,55 @@ fn a_hold_that_a_cut_run_left_out_follows(rt: HostRuntime) -> Result<(), Fail> {
         play(&mut registry, Act::Request(2, 1, 0))?,
         Answer::To(Reply::Granted { lease: 2, start: 0 })
     );
+    Ok(())
+}
+
+/// What is answered behind the six entries above, whoever made them.
+fn rows_behind_handing() -> [(Act, Answer); 7] {
+    let reserved = Why::Reserved {
+        for_library: 2,
+        until: 5000,
+    };
+    let shown = Shown {
+        first: 3,
+        sends: 2,
+        ended: true,
+    };
+    [
+        (Act::Leave(8), Answer::Unlawful),
+        (Act::Request(3, 1, 0), Answer::To(Reply::Refused(reserved))),
+        (Act::Arrive, Answer::Place(0)),
+        (
+            Act::Request(2, 1, 1),
+            Answer::To(Reply::Granted { lease: 2, start: 1 }),
+        ),
+        (
+            Act::Timeout(word(2, 2, Standing::Active, 2), 0),
+            Answer::Of(shown),
+        ),
+        (Act::Admin, Answer::Place(5)),
+        (Act::Leave(7), Answer::Done),
+    ]
+}
+
+#[test]
+fn the_entries_of_a_registry_are_read_back_whole(rt: HostRuntime) -> Result<(), Fail> {
+    let mut registry = Registry::new(rt.alloc(), 3)?;
+    play(&mut registry, Act::Bind(7))?;
+    play(&mut registry, Act::Admin)?;
+    play(&mut registry, Act::Request(1, 1, 0))?;
+    let handed_on = word(1, 2, Standing::Released, 1);
+    play(&mut registry, Act::Show(handed_on, 5000))?;
+    let recovery = Recovery::of(rt.alloc(), 3, registry.entries())?;
+    assert_eq!(rt; recovery.entries(), HANDED.as_slice());
+    let mut resumed = Registry::resume(recovery, 9);
+    for (act, wanted) in rows_behind_handing() {
+        assert_eq!(rt; play(&mut registry, act)?, wanted, "{act:?}");
+        assert_eq!(rt; play(&mut resumed, act)?, wanted, "{act:?}, resumed");
+    }
+    assert_eq!(rt; resumed.entries(), registry.entries());
+    assert_eq!(rt; resumed.holdings(), registry.holdings());
+    assert_eq!(rt; resumed.word(), word(2, 2, Standing::Revoked, 2));
     Ok(())
 }
 
