@@ -16,7 +16,8 @@ use Rattle.resend_plan.specs.Plan.{IsAnswer, plan_of}
 use Rattle.resend_plan.specs.Wire.{no_entry}
 use Rattle.resend_plan.specs.declared.item.WireItem.{WireItem}
 use Rattle.resend_plan.specs.declared.item.WireItem.TheVariants.{Again, GapFill, New}
-use Rattle.session_core.specs.Admin.{admin_text, field_text, is_tick_text, test_request_text}
+use Rattle.fix_fields.specs.Field.{tagged_text}
+use Rattle.session_core.specs.Admin.{admin_text, is_tick_text, test_request_text}
 use Rattle.session_core.specs.Receive.{after_receive, is_send, outcome}
 use Rattle.session_core.specs.State.{State}
 use Rattle.session_core.specs.Tasks.{is_tick_act}
@@ -26,7 +27,7 @@ use Rattle.session_core.specs.declared.acts.Act.TheVariants.{Accept, Resend, Res
 use Rattle.session_book.specs.Acts.{admin_entry, after_act, after_acts, next_item, plan_items}
 use Rattle.session_book.specs.Book.{Book, Desk, after_sending, present_series}
 use Rattle.session_book.specs.Items.{QueuesWhatIsTold, items_behind_entries, items_from}
-use Rattle.session_book.specs.Moments.{AreEarlier, BeatsBehind, is_beat_by, moment_of}
+use Rattle.session_book.specs.Moments.{AreEarlier, BeatsBehind, is_beat_by, item_moment}
 use Rattle.session_book.specs.Spells.{items_at, logged_body, placed, placed_from}
 use Rattle.session_book.specs.Told.{TellActs, TellsAct}
 use Rattle.session_book.specs.Words.{new_items, sent_entry, with_sends}
@@ -76,7 +77,7 @@ items_are c old new added items q are bound keep queued =
     ∙ append_cancel_left old.outgoing.unmade (items_behind_entries c log old.book.entries q.added) items (ap (λ (out : Outgoing). out.unmade) (sym q.queued ∙ queued))
 
 abbrev IsAt : List (List OutEntry) → ℕ → WireItem → Type 0
-IsAt log at item = moment_of log item ≡ at
+IsAt log at item = item_moment log item ≡ at
 
 answer_at : (log later : List (List OutEntry)) (series at : ℕ) (item : WireItem) → IsAnswer log series at item → IsAt later at item
 answer_at log later series at (New k n) is = absurd is
@@ -139,7 +140,7 @@ module _ (r : RunGrounds) where
       r.logs.further desk.book.outbound next.book.outbound (after_acts at acts next).book.outbound (act_grows at act desk) (acts_grow at acts next)
 
   -- the entry that was pushed has its moment in every later log
-  pushed_at : (log later : List (List OutEntry)) (entry : OutEntry) → 1 ≤ length log → GoesOn (with_entry log entry) later → moment_of later (New (length log) (length (series_at log (length log)) + 1)) ≡ entry.at
+  pushed_at : (log later : List (List OutEntry)) (entry : OutEntry) → 1 ≤ length log → GoesOn (with_entry log entry) later → item_moment later (New (length log) (length (series_at log (length log)) + 1)) ≡ entry.at
   pushed_at log later entry h on =
       let k = length log in
       let n = length (series_at log k) + 1 in
@@ -188,7 +189,7 @@ module _ (r : RunGrounds) where
   act_no_beat inbound log s (Accept body) e is fails = ap (is_beat_by log s) is.1.0
   act_no_beat inbound log s (SendAct message) e is fails =
       ap (is_beat_by log s) is.1.0
-      ∙ beat_logged (pointwise nat_eq (logged_body log (series_of s) is.0) (field_text (codes "35=") (codes "0"))) (pointwise nat_eq (take 5 (logged_body log (series_of s) is.0)) (field_text (codes "35=") (codes "1")))
+      ∙ beat_logged (pointwise nat_eq (logged_body log (series_of s) is.0) (tagged_text (codes "35") (codes "0"))) (pointwise nat_eq (take 5 (logged_body log (series_of s) is.0)) (tagged_text (codes "35") (codes "1")))
       (ap is_tick_text (body_logged log (series_of s) is.0 message is.1.1) ∙ r.texts.tick message is.0 ∙ fails)
   act_no_beat inbound log s (Resend begin last) e is fails = ap (is_beat_by log s) is.1
   act_no_beat inbound log s Restart e is fails = ap (is_beat_by log s) is.1
@@ -201,7 +202,7 @@ module _ (r : RunGrounds) where
       All-cons (NoBeat log) (placed s e) (placed_from (state_after s e) es) (act_no_beat inbound log s act e is.0 (All-head (λ a. is_tick_act a ≡ false) act acts fails))
       (acts_no_beats inbound log (state_after s e) acts es is.1 (All-tail (λ a. is_tick_act a ≡ false) act acts fails))
 
-  test_no_beat : (number : ℕ) → pointwise nat_eq (admin_text TestRequest number) (field_text (codes "35=") (codes "0")) ≡ false
+  test_no_beat : (number : ℕ) → pointwise nat_eq (admin_text TestRequest number) (tagged_text (codes "35") (codes "0")) ≡ false
   unfolding test_request_text
   test_no_beat number = refl
 
@@ -213,15 +214,15 @@ module _ (r : RunGrounds) where
       let told = is.0 in
       All-cons (NoBeat log) (placed s e) []
       (ap (is_beat_by log s) told.1.0
-      ∙ ap (λ body. pointwise nat_eq body (field_text (codes "35=") (codes "0"))) (body_logged log (series_of s) told.0 TestRequest told.1.1)
+      ∙ ap (λ body. pointwise nat_eq body (tagged_text (codes "35") (codes "0"))) (body_logged log (series_of s) told.0 TestRequest told.1.1)
       ∙ test_no_beat told.0)
       (All-nil _)
 
 -- items of that moment, all of which come so long behind the earlier ones
-each_behind : (log : List (List OutEntry)) (wait at : ℕ) (earlier items : List WireItem) → AreEarlier log wait at earlier → All (IsAt log at) items → All (λ item. AreEarlier log wait (moment_of log item) earlier) items
+each_behind : (log : List (List OutEntry)) (wait at : ℕ) (earlier items : List WireItem) → AreEarlier log wait at earlier → All (IsAt log at) items → All (λ item. AreEarlier log wait (item_moment log item) earlier) items
 each_behind log wait at earlier [] are all = All-nil _
 each_behind log wait at earlier (item ∷ items) are all =
-    All-cons (λ i. AreEarlier log wait (moment_of log i) earlier) item items (subst (λ m. AreEarlier log wait m earlier) (sym (All-head (IsAt log at) item items all)) are)
+    All-cons (λ i. AreEarlier log wait (item_moment log i) earlier) item items (subst (λ m. AreEarlier log wait m earlier) (sym (All-head (IsAt log at) item items all)) are)
     (each_behind log wait at earlier items are (All-tail (IsAt log at) item items all))
 
 -- one entry whose items were made so long behind the earlier ones

@@ -29,7 +29,7 @@ use Rattle.session_book.specs.Acts.{after_acts, after_binding, after_dial, after
 use Rattle.session_book.specs.Book.{Book, Desk, with_event, with_machine, with_outbox}
 use Rattle.session_book.specs.Items.{HasWhatWasSent, QueuesWhatIsTold, items_behind_entries, items_from}
 use Rattle.session_book.specs.Kept.{IsBook}
-use Rattle.session_book.specs.Moments.{AreEarlier, BeatsBehind, IsTimedRun, TimedRuns, moment_of, wait_of}
+use Rattle.session_book.specs.Moments.{AreEarlier, BeatsBehind, IsTimedRun, TimedRuns, item_moment, wait_of}
 use Rattle.session_book.specs.Runs.{Handled, IsRunOver, IsWithin, StandsBehind, bodies_of, handled_of, with_body}
 use Rattle.session_book.specs.Spells.{items_at, placed_from, spells_behind}
 use Rattle.session_book.specs.Told.{TellActs}
@@ -57,7 +57,7 @@ weaker new sent at items (inl is) = inl is
 weaker new sent at items (inr is) = inr is.0
 
 -- what was queued at a moment was made up to the last sending
-made_up_to : (log : List (List OutEntry)) (new sent at : ℕ) (items : List WireItem) → (new ≡ at) ⊎ ((new ≡ sent) × (items ≡ [])) → All (λ item. moment_of log item ≡ at) items → AreEarlier log 0 new items
+made_up_to : (log : List (List OutEntry)) (new sent at : ℕ) (items : List WireItem) → (new ≡ at) ⊎ ((new ≡ sent) × (items ≡ [])) → All (λ item. item_moment log item ≡ at) items → AreEarlier log 0 new items
 made_up_to log new sent at items (inl is) all = made_at log at new items (omega arith) all
 made_up_to log new sent at items (inr is) all = subst (λ found. AreEarlier log 0 new found) (sym is.1) (All-nil _)
 
@@ -95,7 +95,7 @@ HeartStays = (state : State) (body : List ℕ) (m : ℕ) → state.phase ≢ Off
 module _ (r : RunGrounds) where
   -- entries that queue these items, all made at the moment
   batch_by : (c wait at sent : ℕ) (old new : Desk) (added : List Entry) (items : List WireItem) → QueuesWhatIsTold c old new → new.book.entries ≡ old.book.entries ++ added → (state_of old.book.entries).bound ≡ Some c → All Keeps added
-      → new.outgoing ≡ with_items items old.outgoing → All (λ item. moment_of new.book.outbound item ≡ at) items
+      → new.outgoing ≡ with_items items old.outgoing → All (λ item. item_moment new.book.outbound item ≡ at) items
       → sent ≤ at → (old.book.machine.sent ≡ sent) ⊎ (old.book.machine.sent ≡ at)
       → (new.book.machine.sent ≡ at) ⊎ ((new.book.machine.sent ≡ old.book.machine.sent) × (items ≡ []))
       → ((earlier : List WireItem) → AreEarlier new.book.outbound 0 sent earlier → BeatsBehind new.book.outbound wait earlier (placed_from (state_of old.book.entries) added))
@@ -178,7 +178,7 @@ module _ (r : RunGrounds) where
 
     tick_beats : (at wait : ℕ) (desk : Desk) (acts : List Act) (inbound : List (List ℕ)) (log : List (List OutEntry)) (added : List Entry) → 1000 * heart_in desk.book.machine.phase ≡ wait
         → AsksOneAct desk.book.machine (heart_in desk.book.machine.phase) at acts → TellActs inbound log (state_of desk.book.entries) acts added
-        → All (λ item. moment_of log item ≡ at) (flat_map (items_at log) (placed_from (state_of desk.book.entries) added))
+        → All (λ item. item_moment log item ≡ at) (flat_map (items_at log) (placed_from (state_of desk.book.entries) added))
         → (earlier : List WireItem) → AreEarlier log 0 desk.book.machine.sent earlier → BeatsBehind log wait earlier (placed_from (state_of desk.book.entries) added)
     tick_beats at wait desk acts inbound log added wait_is (inl none) told all earlier are =
         let s = state_of desk.book.entries in
@@ -226,7 +226,7 @@ module _ (r : RunGrounds) where
         within_timed c at old new told.added bound tr (makes_of r acts desk (after_ticking at desk) told) keep (tick_run r before start handled at desk is tr.run)
         (λ wait wait_is. acts_batch answers c wait at machine.sent acts ticked desk told.added (agrees old is) bound told.entries_are keep (omega arith) (r.ticks.sent machine at)
         (tick_beats at wait desk acts new.inbound new.outbound told.added wait_is (r.ticks.one machine at) told.told
-        (subst (All (λ item. moment_of new.outbound item ≡ at)) (sym items_is) all)))
+        (subst (All (λ item. item_moment new.outbound item ≡ at)) (sym items_is) all)))
 
     pub tick_timed : (at : ℕ) (desk : Desk) → IsBook desk.book → moment ≤ at → IsTimedRun before start handled moment desk.book → IsTimedRun before start handled at (after_ticking at desk).book
     tick_timed at desk is order tr = tick_by at desk (state_of desk.book.entries).bound refl is order tr
@@ -296,7 +296,7 @@ module _ (r : RunGrounds) where
         let items = send_items bodies old in
         let sends = new_items (length old.outbound) (length (series_at old.outbound (length old.outbound)) + 1) (length bodies) in
         let items_same : items ≡ sends = ap (λ (found : Option ℕ). where_bound found sends) bound in
-        let all : All (λ item. moment_of log item ≡ at) items = subst (All (λ item. moment_of log item ≡ at)) (sym items_same) (sends_at r at bodies old log (agrees old is) (r.logs.itself log)) in
+        let all : All (λ item. item_moment log item ≡ at) items = subst (All (λ item. item_moment log item ≡ at)) (sym items_same) (sends_at r at bodies old log (agrees old is) (r.logs.itself log)) in
         let keep = leases_keep adds.added adds.leases in
         let most = tr.up_to in
         within_timed c at old new.book adds.added bound tr

@@ -14,7 +14,7 @@ use Rattle.resend_plan.specs.declared.item.WireItem.{WireItem}
 use Rattle.session_core.specs.Runs.{after_connections}
 use Rattle.session_core.specs.State.{State}
 use Rattle.session_book.specs.Book.{Book}
-use Rattle.session_book.specs.Moments.{AreEarlier, BeatsBehind, IsTimed, IsTimedRun, TimedRuns, moment_of, wait_of}
+use Rattle.session_book.specs.Moments.{AreEarlier, BeatsBehind, IsTimed, IsTimedRun, TimedRuns, item_moment, wait_of}
 use Rattle.session_book.specs.Runs.{Handled, IsRunOver, bodies_of, handled_of}
 use Rattle.session_book.specs.Spells.{items_at, new_spell, placed_from, spell_items, spell_with, spells_behind, spells_from}
 use Rattle.session_book.specs.Texts.{WasSent}
@@ -66,7 +66,7 @@ module _ (r : RunGrounds) (before : List Entry) (start : State) where
       timed_more r old.outbound log makes.outbound wait was.last.entries more then_timed.timed batch.sent batch.named (batch.beats (flat_map (items_at log) was.last.entries) items) in
       let all_items : AreEarlier log 0 new.machine.sent (spell_items log last) =
       subst (λ found. AreEarlier log 0 new.machine.sent found) (sym (flat_map-append (items_at log) was.last.entries more))
-      (All-append (λ item. moment_of log item + 0 ≤ new.machine.sent) (flat_map (items_at log) was.last.entries) (flat_map (items_at log) more)
+      (All-append (λ item. item_moment log item + 0 ≤ new.machine.sent) (flat_map (items_at log) was.last.entries) (flat_map (items_at log) more)
       (earlier_yet log old.machine.sent new.machine.sent (flat_map (items_at log) was.last.entries) batch.later items) batch.made) in
       record {
         run = run;

@@ -15,11 +15,11 @@ use Rattle.message_log.specs.declared.entry.OutEntry.{OutEntry}
 use Rattle.resend_plan.specs.Wire.{NamesEntry, no_entry}
 use Rattle.resend_plan.specs.declared.item.WireItem.{WireItem}
 use Rattle.resend_plan.specs.declared.item.WireItem.TheVariants.{Again, GapFill, New}
-use Rattle.session_core.specs.Admin.{field_text}
+use Rattle.fix_fields.specs.Field.{tagged_text}
 use Rattle.session_core.specs.Runs.{after_connection, after_connections}
 use Rattle.session_core.specs.State.{State}
 use Rattle.session_book.specs.Items.{items_of_entry}
-use Rattle.session_book.specs.Moments.{AreEarlier, BeatsBehind, IsTimed, TimedRuns, is_beat, is_beat_by, moment_of, wait_of}
+use Rattle.session_book.specs.Moments.{AreEarlier, BeatsBehind, IsTimed, TimedRuns, is_beat, is_beat_by, item_moment, wait_of}
 use Rattle.session_book.specs.Runs.{Handled, bodies_of}
 use Rattle.session_book.specs.Spells.{Placed, Spell, items_at}
 use Rattle.session_book.specs.Texts.{WasSent}
@@ -46,22 +46,22 @@ beatless log wait earlier (p ∷ ps) none =
 pub earlier_yet : (log : List (List OutEntry)) (at later : ℕ) (items : List WireItem) → at ≤ later → AreEarlier log 0 at items → AreEarlier log 0 later items
 earlier_yet log at later [] more are = All-nil _
 earlier_yet log at later (item ∷ items) more are =
-    All-cons (λ i. moment_of log i + 0 ≤ later) item items (let first = All-head (λ i. moment_of log i + 0 ≤ at) item items are in omega arith)
-    (earlier_yet log at later items more (All-tail (λ i. moment_of log i + 0 ≤ at) item items are))
+    All-cons (λ i. item_moment log i + 0 ≤ later) item items (let first = All-head (λ i. item_moment log i + 0 ≤ at) item items are in omega arith)
+    (earlier_yet log at later items more (All-tail (λ i. item_moment log i + 0 ≤ at) item items are))
 
 -- what was made up to a moment lies so long before a later one
 pub earlier_by : (log : List (List OutEntry)) (sent wait at : ℕ) (items : List WireItem) → sent + wait ≤ at → AreEarlier log 0 sent items → AreEarlier log wait at items
 earlier_by log sent wait at [] more are = All-nil _
 earlier_by log sent wait at (item ∷ items) more are =
-    All-cons (λ i. moment_of log i + wait ≤ at) item items (let first = All-head (λ i. moment_of log i + 0 ≤ sent) item items are in omega arith)
-    (earlier_by log sent wait at items more (All-tail (λ i. moment_of log i + 0 ≤ sent) item items are))
+    All-cons (λ i. item_moment log i + wait ≤ at) item items (let first = All-head (λ i. item_moment log i + 0 ≤ sent) item items are in omega arith)
+    (earlier_by log sent wait at items more (All-tail (λ i. item_moment log i + 0 ≤ sent) item items are))
 
 -- what was made at a moment
-pub made_at : (log : List (List OutEntry)) (at sent : ℕ) (items : List WireItem) → at ≤ sent → All (λ item. moment_of log item ≡ at) items → AreEarlier log 0 sent items
+pub made_at : (log : List (List OutEntry)) (at sent : ℕ) (items : List WireItem) → at ≤ sent → All (λ item. item_moment log item ≡ at) items → AreEarlier log 0 sent items
 made_at log at sent [] more are = All-nil _
 made_at log at sent (item ∷ items) more are =
-    All-cons (λ i. moment_of log i + 0 ≤ sent) item items (let first = All-head (λ i. moment_of log i ≡ at) item items are in omega arith)
-    (made_at log at sent items more (All-tail (λ i. moment_of log i ≡ at) item items are))
+    All-cons (λ i. item_moment log i + 0 ≤ sent) item items (let first = All-head (λ i. item_moment log i ≡ at) item items are in omega arith)
+    (made_at log at sent items more (All-tail (λ i. item_moment log i ≡ at) item items are))
 
 -- the last of some
 last_is : {T : Type 0} (d : T) (xs : List T) (x : T) → last_or d (xs ++ x ∷ []) ≡ x
@@ -95,7 +95,7 @@ join_timed log machine (g ∷ past) h [] last is timed = absurd is
 join_timed log machine (g ∷ past) h (spell ∷ front) last is timed = (is.0, join_timed log (after_connection machine g.bodies) past h front last is.1 timed)
 
 module _ (r : RunGrounds) (earlier later : List (List OutEntry)) (on : GoesOn earlier later) where
-  moment_stays : (item : WireItem) → NamesEntry earlier item → moment_of later item ≡ moment_of earlier item
+  moment_stays : (item : WireItem) → NamesEntry earlier item → item_moment later item ≡ item_moment earlier item
   moment_stays (New series number) is = ap (λ (o : Option OutEntry). (unwrap_or o no_entry).at) (r.stay earlier later series number on is)
   moment_stays (Again series number at) is = refl
   moment_stays (GapFill series number to at) is = refl
@@ -103,7 +103,7 @@ module _ (r : RunGrounds) (earlier later : List (List OutEntry)) (on : GoesOn ea
   beat_stays : (s : Totals) (e : Entry) → All (NamesEntry earlier) (items_of_entry earlier s e) → is_beat_by later s e ≡ is_beat_by earlier s e
   beat_stays s (Arrive pos) named = refl
   beat_stays s (Admin number) named =
-      ap (λ (o : Option OutEntry). pointwise nat_eq (unwrap_or o no_entry).body (field_text (codes "35=") (codes "0")))
+      ap (λ (o : Option OutEntry). pointwise nat_eq (unwrap_or o no_entry).body (tagged_text (codes "35") (codes "0")))
       (r.stay earlier later (series_of s) number on (All-head (NamesEntry earlier) (New (series_of s) number) [] named))
   beat_stays s (Bind c) named = refl
   beat_stays s (Plan begin last at) named = refl
@@ -120,18 +120,18 @@ module _ (r : RunGrounds) (earlier later : List (List OutEntry)) (on : GoesOn ea
   pub earlier_stay : (wait at : ℕ) (items : List WireItem) → All (NamesEntry earlier) items → AreEarlier earlier wait at items → AreEarlier later wait at items
   earlier_stay wait at [] named are = All-nil _
   earlier_stay wait at (item ∷ items) named are =
-      All-cons (λ i. moment_of later i + wait ≤ at) item items
-      (subst (λ moment. moment + wait ≤ at) (sym (moment_stays item (All-head (NamesEntry earlier) item items named))) (All-head (λ i. moment_of earlier i + wait ≤ at) item items are))
-      (earlier_stay wait at items (All-tail (NamesEntry earlier) item items named) (All-tail (λ i. moment_of earlier i + wait ≤ at) item items are))
+      All-cons (λ i. item_moment later i + wait ≤ at) item items
+      (subst (λ moment. moment + wait ≤ at) (sym (moment_stays item (All-head (NamesEntry earlier) item items named))) (All-head (λ i. item_moment earlier i + wait ≤ at) item items are))
+      (earlier_stay wait at items (All-tail (NamesEntry earlier) item items named) (All-tail (λ i. item_moment earlier i + wait ≤ at) item items are))
 
-  each_stays : (wait : ℕ) (before items : List WireItem) → All (NamesEntry earlier) before → All (NamesEntry earlier) items → All (λ item. AreEarlier earlier wait (moment_of earlier item) before) items
-      → All (λ item. AreEarlier later wait (moment_of later item) before) items
+  each_stays : (wait : ℕ) (before items : List WireItem) → All (NamesEntry earlier) before → All (NamesEntry earlier) items → All (λ item. AreEarlier earlier wait (item_moment earlier item) before) items
+      → All (λ item. AreEarlier later wait (item_moment later item) before) items
   each_stays wait before [] named_before named are = All-nil _
   each_stays wait before (item ∷ items) named_before named are =
-      All-cons (λ i. AreEarlier later wait (moment_of later i) before) item items
+      All-cons (λ i. AreEarlier later wait (item_moment later i) before) item items
       (subst (λ moment. AreEarlier later wait moment before) (sym (moment_stays item (All-head (NamesEntry earlier) item items named)))
-      (earlier_stay wait (moment_of earlier item) before named_before (All-head (λ i. AreEarlier earlier wait (moment_of earlier i) before) item items are)))
-      (each_stays wait before items named_before (All-tail (NamesEntry earlier) item items named) (All-tail (λ i. AreEarlier earlier wait (moment_of earlier i) before) item items are))
+      (earlier_stay wait (item_moment earlier item) before named_before (All-head (λ i. AreEarlier earlier wait (item_moment earlier i) before) item items are)))
+      (each_stays wait before items named_before (All-tail (NamesEntry earlier) item items named) (All-tail (λ i. AreEarlier earlier wait (item_moment earlier i) before) item items are))
 
   all_first : (xs ys : List WireItem) → All (NamesEntry earlier) (xs ++ ys) → All (NamesEntry earlier) xs
   all_first [] ys are = All-nil _
@@ -150,7 +150,7 @@ module _ (r : RunGrounds) (earlier later : List (List OutEntry)) (on : GoesOn ea
       let same : items_at later p ≡ items = same_entry r.logs.begins earlier later p.before p.entry on (All-head (WasSent earlier) p ps sent) in
       let rest = beats_stay wait (before ++ items) ps (All-append (NamesEntry earlier) before items named_before these) (All-tail (WasSent earlier) p ps sent)
       (all_second items (flat_map (items_at earlier) ps) named) is.1 in (
-        λ beat. subst (λ found. All (λ item. AreEarlier later wait (moment_of later item) before) found) (sym same)
+        λ beat. subst (λ found. All (λ item. AreEarlier later wait (item_moment later item) before) found) (sym same)
             (each_stays wait before items named_before these (is.0 (sym (beat_stays p.before p.entry these) ∙ beat))),
         subst (λ found. BeatsBehind later wait (before ++ found) ps) (sym same) rest,
       )

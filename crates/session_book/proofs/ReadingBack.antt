@@ -1,5 +1,5 @@
 -- What was read back stays what it is with each record, and makes a session.
-use Rattle.std.proofs.Common.{◌≡◌, ℕ, ◌+◌, ◌≤◌, Bool, true, false, if◌then◌else◌, List, [], ◌∷◌, ◌++◌, length, Option, None, Some, codes, refl, sym, ap, subst, ◌∙◌, arith}
+use Rattle.std.proofs.Common.{◌≡◌, ℕ, ◌+◌, ◌≤◌, Bool, true, false, if◌then◌else◌, List, [], ◌∷◌, ◌++◌, length, Option, None, Some, codes, decimal, refl, sym, ap, subst, ◌∙◌, arith}
 use Rattle.std.proofs.lemmas.List.{length_push, map_push}
 use Rattle.lease_core.specs.Laws.{EntriesDecide}
 use Rattle.lease_core.specs.Lines.{entries_after_hold}
@@ -13,7 +13,8 @@ use Rattle.message_log.specs.declared.entry.OutEntry.{OutEntry}
 use Rattle.fix_fields.specs.declared.limits.TheConstants.{LONGEST_NAME}
 use Rattle.resend_plan.specs.Fit.{HasFitBodies, IsFit}
 use Rattle.seq_gaps.specs.Line.{after_fill, fresh_line}
-use Rattle.session_core.specs.Admin.{field_text, number_field_text, admin_text, is_session_entry, logon_text, heartbeat_text, test_request_text, resend_request_text, reject_text, logout_text}
+use Rattle.fix_fields.specs.Field.{tagged_text}
+use Rattle.session_core.specs.Admin.{admin_text, is_session_entry, logon_text, heartbeat_text, test_request_text, resend_request_text, reject_text, logout_text}
 use Rattle.session_core.specs.State.{State, new_state}
 use Rattle.session_core.specs.declared.acts.Admin.{Admin as Message}
 use Rattle.session_core.specs.declared.acts.Admin.TheVariants.{Logon, Heartbeat, TestRequest, ResendRequest, Reject, Logout}
@@ -133,6 +134,6 @@ entries_told (Heartbeat (Some test)) number = refl
 entries_told TestRequest number = refl
 entries_told (ResendRequest begin last) number = refl
 entries_told (Reject seq tag kind reason) number =
-    reject_told _ (number_field_text (codes "45=") seq ++ number_field_text (codes "371=") tag) (field_text (codes "372=") kind) (number_field_text (codes "373=") reason)
+    reject_told _ (tagged_text (codes "45") (decimal seq) ++ tagged_text (codes "371") (decimal tag)) (tagged_text (codes "372") kind) (tagged_text (codes "373") (decimal reason))
 entries_told (Logout None) number = refl
 entries_told (Logout (Some text)) number = refl

@@ -20,7 +20,7 @@ use Rattle.message_log.specs.Series.{entry_in, series_at, with_entry}
 use Rattle.message_log.specs.declared.entry.OutEntry.{OutEntry}
 use Rattle.resend_plan.specs.Wire.{entry_of, no_entry}
 use Rattle.session_book.specs.Book.{Book}
-use Rattle.session_book.specs.Records.{body_of, moment_of, records_from, series_behind, series_over}
+use Rattle.session_book.specs.Records.{body_of, entry_moment, records_from, series_behind, series_over}
 use Rattle.session_book.specs.Rereading.{AreMarked, IsMarked, ReadBackStays, RecordsAreReadBack, after_reading, first_entries, read_of, read_up_to}
 use Rattle.session_book.specs.Reviving.{ReadBack, after_read}
 use Rattle.session_book.proofs.Books.{lengths}
@@ -219,7 +219,7 @@ step_read :
     → FitsIn (state_after s e).series book.outbound
     → (state_after s e).inbound ≤ length book.inbound
     → IsMarked book.outbound s e
-    → after_read e (moment_of book (series_of s) e) (body_of book (series_of s) e) (reading book s entries) ≡ reading book (state_after s e) (entries ++ e ∷ [])
+    → after_read e (entry_moment book (series_of s) e) (body_of book (series_of s) e) (reading book s entries) ≡ reading book (state_after s e) (entries ++ e ∷ [])
 step_read limit book s entries (Arrive pos) next some fits received marked =
     let at : pos ≡ s.inbound = placed limit s (Arrive pos) next in
     ap (λ (log : List (List ℕ)). record (reading book s (entries ++ Arrive pos ∷ [])) { inbound = log })

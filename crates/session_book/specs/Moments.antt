@@ -9,7 +9,7 @@ use Rattle.message_log.specs.declared.entry.OutEntry.{OutEntry}
 use Rattle.resend_plan.specs.Wire.{NamesEntry, entry_of}
 use Rattle.resend_plan.specs.declared.item.WireItem.{WireItem}
 use Rattle.resend_plan.specs.declared.item.WireItem.TheVariants.{Again, GapFill, New}
-use Rattle.session_core.specs.Admin.{field_text}
+use Rattle.fix_fields.specs.Field.{tagged_text}
 use Rattle.session_core.specs.Ask.{after_ask}
 use Rattle.session_core.specs.Runs.{after_connection, behind_all}
 use Rattle.session_core.specs.State.{State, heart_in}
@@ -19,14 +19,14 @@ use Rattle.session_book.specs.Spells.{Placed, Spell, items_at, logged_body, spel
 use Rattle.session_book.specs.Texts.{WasSent}
 
 -- when an item was made
-abbrev pub moment_of : List (List OutEntry) → WireItem → ℕ
-moment_of log (New series number) = (entry_of log series number).at
-moment_of log (Again series number at) = at
-moment_of log (GapFill series number to at) = at
+abbrev pub item_moment : List (List OutEntry) → WireItem → ℕ
+item_moment log (New series number) = (entry_of log series number).at
+item_moment log (Again series number at) = at
+item_moment log (GapFill series number to at) = at
 
 -- the Admin entry of a Heartbeat that answers no TestRequest
 abbrev pub is_beat_by : List (List OutEntry) → Totals → Entry → Bool
-is_beat_by log s (Admin number) = pointwise nat_eq (logged_body log (series_of s) number) (field_text (codes "35=") (codes "0"))
+is_beat_by log s (Admin number) = pointwise nat_eq (logged_body log (series_of s) number) (tagged_text (codes "35") (codes "0"))
 is_beat_by log s _ = false
 
 abbrev pub is_beat : List (List OutEntry) → Placed → Bool
@@ -34,13 +34,13 @@ is_beat log p = is_beat_by log p.before p.entry
 
 -- each of the items was made so long before this moment, or earlier
 abbrev pub AreEarlier : List (List OutEntry) → ℕ → ℕ → List WireItem → Type 0
-AreEarlier log wait at items = All (λ item. moment_of log item + wait ≤ at) items
+AreEarlier log wait at items = All (λ item. item_moment log item + wait ≤ at) items
 
 -- Each such Heartbeat among the entries was made where nothing had been made for so long, neither of the earlier items nor of the entries before it.
 abbrev pub BeatsBehind : List (List OutEntry) → ℕ → List WireItem → List Placed → Type 0
 BeatsBehind log wait earlier [] = Unit {0}
 BeatsBehind log wait earlier (p ∷ ps) =
-    (is_beat log p ≡ true → All (λ item. AreEarlier log wait (moment_of log item) earlier) (items_at log p)) × BeatsBehind log wait (earlier ++ items_at log p) ps
+    (is_beat log p ≡ true → All (λ item. AreEarlier log wait (item_moment log item) earlier) (items_at log p)) × BeatsBehind log wait (earlier ++ items_at log p) ps
 
 -- The entries of one spell: each item names an entry of the log, and each Heartbeat comes where nothing was sent for so long.
 pub record IsTimed (log : List (List OutEntry)) (wait : ℕ) (entries : List Placed) : Type 0 where

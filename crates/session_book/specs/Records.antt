@@ -42,11 +42,11 @@ abbrev pub after_bind_note : ℕ → Book → Pending → Pending
 after_bind_note before book pending = record pending { expected = pending.expected ++ bind_numbers before book.machine.line.expected (new_count pending book) }
 
 -- the moment of an entry, and 0 where it has none
-abbrev pub moment_of : Book → ℕ → Entry → ℕ
-moment_of book series (Admin number) = (entry_of book.outbound series number).at
-moment_of book series (Plan begin last at) = at
-moment_of book series (Send lease library ordinal number) = (entry_of book.outbound series number).at
-moment_of book series _ = 0
+abbrev pub entry_moment : Book → ℕ → Entry → ℕ
+entry_moment book series (Admin number) = (entry_of book.outbound series number).at
+entry_moment book series (Plan begin last at) = at
+entry_moment book series (Send lease library ordinal number) = (entry_of book.outbound series number).at
+entry_moment book series _ = 0
 
 -- the body that was accepted or sent, and none where an entry has none
 abbrev pub body_of : Book → ℕ → Entry → List ℕ
@@ -57,7 +57,7 @@ body_of book series _ = []
 
 -- the record of an entry of session s that was made in this series
 abbrev pub record_of : ℕ → Book → ℕ → Entry → ℕ → Record
-record_of s book series e expected = record { s = s; entry = e; at = moment_of book series e; body = body_of book series e; expected = expected }
+record_of s book series e expected = record { s = s; entry = e; at = entry_moment book series e; body = body_of book series e; expected = expected }
 
 -- the series behind an entry
 abbrev pub series_behind : ℕ → Entry → ℕ

@@ -10,7 +10,7 @@ use Rattle.message_log.specs.declared.entry.OutEntry.{OutEntry}
 use Rattle.message_log.specs.declared.out_log.TheConstants.{LAST_SERIES}
 use Rattle.resend_plan.specs.Fit.{HasFitBodies, IsFit}
 use Rattle.seq_gaps.specs.Line.{after_fill, fresh_line}
-use Rattle.session_core.specs.Admin.{field_text}
+use Rattle.fix_fields.specs.Field.{tagged_text}
 use Rattle.session_core.specs.State.{new_state}
 use Rattle.session_book.specs.Book.{Book}
 use Rattle.session_book.specs.Words.{sent_entry}
@@ -35,7 +35,7 @@ nothing_read leases = record { leases = leases; entries = []; inbound = []; outb
 
 -- the type field of a Reject
 abbrev pub reject_type : List ℕ
-reject_type = field_text (codes "35=") (codes "3")
+reject_type = tagged_text (codes "35") (codes "3")
 
 -- each body of a session message is that of a session entry but a Reject's
 abbrev pub is_session_text : List ℕ → Bool
@@ -59,8 +59,7 @@ outbound_with _ at body log = log
 
 -- a record was read
 abbrev pub after_read : Entry → ℕ → List ℕ → ReadBack → ReadBack
-after_read e at body read = record {
-  leases = read.leases;
+after_read e at body read = record read {
   entries = read.entries ++ e ∷ [];
   inbound = inbound_with e body read.inbound;
   outbound = outbound_with e at body read.outbound;

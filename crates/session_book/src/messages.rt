@@ -1,6 +1,6 @@
 //! What happens on the connection to which the session is bound, and what the clock asks.
 
-ghost use Rattle.std.specs.Prelude.{◌≡◌, ◌≢◌, ◌≤◌, ◌⊎◌, List, true, IfOk, OnOk, OnErr, IsSome, None, Some};
+ghost use Rattle.std.specs.Prelude.{◌≡◌, ◌≢◌, ◌≤◌, ◌⊎◌, List, [], true, IfOk, IsOk, OnOk, OnErr, IsSome, None, Some};
 ghost use Rattle.session_core.specs.declared.phases.Phase.TheVariants as Phase;
 ghost use Rattle.lease_core.specs.State.{state_of};
 ghost use Rattle.session_core.specs.Ask.{ask, after_ask};
@@ -35,6 +35,7 @@ impl SessionBook {
         requires can { CanCarry self.old.book acts.items }
         ensures ok { OnOk result (with_outbox self.new.book out.new.outgoing ≡ after_acts at acts.items (with_outbox self.old.book out.old.outgoing)) }
         ensures err { OnErr result (IsBegun at acts.items (with_outbox self.old.book out.old.outgoing) (with_outbox self.new.book out.new.outgoing)) }
+        ensures none { acts.items ≡ [] → IsOk result }
         ensures bound { (state_of self.new.book.entries).bound ≡ (state_of self.old.book.entries).bound }
         ensures session { IsSameSession self.old.book self.new.book }
         ensures phase { self.new.book.machine.phase ≡ self.old.book.machine.phase }
@@ -104,7 +105,7 @@ impl SessionBook {
     }
 
     /// The clock stands at a moment. Answers the cause by which the connection ends, if it does.
-    /// Where nothing is due it takes no memory. FIX 4.4, volume 2, "Heartbeat", "Test Request".
+    /// FIX 4.4, volume 2, "Heartbeat", "Test Request".
     pub fn tick(
         &mut self,
         alloc: Global,
@@ -115,6 +116,8 @@ impl SessionBook {
         ensures ok { OnOk result (with_outbox self.new.book out.new.outgoing ≡ after_ticking at (with_outbox self.old.book out.old.outgoing)) }
         ensures end { IfOk result (λ end. end ≡ (tick self.old.book.machine at).end) }
         ensures err { OnErr result ((with_outbox self.new.book out.new.outgoing ≡ with_outbox self.old.book out.old.outgoing) ⊎ IsBegun at (tick self.old.book.machine at).acts (with_outbox (with_machine (after_tick self.old.book.machine at) self.old.book) out.old.outgoing) (with_outbox self.new.book out.new.outgoing)) }
+        // Where nothing is due it takes no memory.
+        ensures quiet { does_nothing_at self.old.book.machine at ≡ true → IsOk result }
         // What the next call asks for.
         ensures bound { (state_of self.new.book.entries).bound ≡ (state_of self.old.book.entries).bound }
         ensures session { IsSameSession self.old.book self.new.book }

@@ -3,7 +3,7 @@
 ghost use Rattle.std.specs.Prelude.{◌≡◌, ◌≤◌, ◌+◌, ◌<◌, ◌^◌, [], IfOk, OnErr, OnOk, drop, length, slice_index_or, take};
 ghost use Rattle.lease_core.specs.State.{series_of, state_of};
 ghost use Rattle.resend_plan.specs.Wire.{entry_of};
-ghost use Rattle.session_book.specs.Records.{HasNoted, HasNotedAll, after_bind_note, after_note, after_records, body_of, moment_of, new_records, record_of, records_from, series_behind, series_over};
+ghost use Rattle.session_book.specs.Records.{HasNoted, HasNotedAll, after_bind_note, after_note, after_records, body_of, entry_moment, new_records, record_of, records_from, series_behind, series_over};
 
 use crate::book::SessionBook;
 use gate_io::{Bytes, NoMemory};
@@ -183,7 +183,7 @@ fn make_record(
 
 /// The moment and the body of an entry that was made in this series.
 fn moment_and_body<'a>(book: &'a SessionBook, series: u32, entry: &Entry) -> (u64, &'a [u8])
-    ensures at { result.0 ≡ moment_of book.now.book series entry.now }
+    ensures at { result.0 ≡ entry_moment book.now.book series entry.now }
     ensures body { result.1.now ≡ body_of book.now.book series entry.now }
 {
     match *entry {

@@ -1,18 +1,15 @@
--- Where nothing comes, is cut or written, the bytes of each connection stay; and connections come only where they are accepted or dialled.
-use Rattle.std.proofs.Common.{◌≡◌, ℕ, List, length, true, false, Option, None, Some, refl, sym, ap, subst, ◌∙◌}
+-- Where nothing comes, is cut or written, the bytes of each connection stay, and those of one that has ended stay in any case; and connections come only
+-- where they are accepted or dialled.
+use Rattle.std.proofs.Common.{◌≡◌, ℕ, ◌<◌, List, [], ◌∷◌, length, true, false, Option, None, Some, IsNone, refl, sym, ap, subst, ◌∙◌, arith}
 use Rattle.std.proofs.lemmas.List.{length-set}
 use Rattle.connection_core.specs.Connection.{ConnectionState, after_end as after_cause, fresh, fresh_dial}
 use Rattle.session_core.specs.declared.causes.Cause.{Cause}
 use Rattle.switchboard.specs.Board.{Board, OutboxChanges, connection_at, place_at}
-use Rattle.switchboard.specs.Going.{is_coming, is_quiet}
-use Rattle.switchboard.specs.Happenings.{BindsTo, BookChanges, ConnectionChanges, EndsBound, Happening, Happens, SessionGoesOn, accepts, answers, binds, binds_and_ends, dials, ends_bound, ends_unbound, gives, lapses, prepares, receives, requests, reserves, shows, takes, ticks, times_out, writes}
-use Rattle.switchboard.proofs.Going.{LinesGoOn, change_lines, line_more, lines_further, one_line, outbox_lines, same_lines}
-
--- what came of a connection and what is held of it are as they were
-pub record IsHeldAsBefore (old new : ConnectionState) : Type 0 where
-  pub taken : new.taken ≡ old.taken
-  pub held : new.held ≡ old.held
-  pub garbled : new.garbled ≡ old.garbled
+use Rattle.switchboard.specs.Going.{IsHeldAsBefore, is_coming, is_quiet}
+use Rattle.switchboard.specs.Happenings.{BindsTo, BookChanges, ConnectionChanges, EndsBound, Happening, Happens, Reaches, SessionGoesOn, accepts, answers, binds, binds_and_ends, dials, ends_bound, ends_unbound, gives, lapses, prepares, receives, requests, reserves, shows, takes, ticks, times_out, writes}
+use Rattle.switchboard.proofs.Changes.{none_is}
+use Rattle.switchboard.proofs.Going.{GoingLaws, LinesGoOn, change_lines, happened, line_more, lines_further, one_line, outbox_lines, same_lines}
+use Rattle.switchboard.proofs.Sounds.{none_some}
 
 held_still : (c : ConnectionState) → IsHeldAsBefore c c
 held_still c = record { taken = refl; held = refl; garbled = refl }
@@ -62,6 +59,45 @@ held_before (ends_bound s k cause) old new quiet is = leaving_holds s k cause ol
 held_before (prepares s k) old new quiet is = changing_holds k _ old new is.changes (record { taken = refl; held = refl; garbled = refl })
 held_before (writes k n) old new quiet is = absurd (cc)
 held_before (reserves s) old new quiet is = going_holds s old new is.goes_on
+
+-- a connection that has ended brings nothing more
+abbrev StaysOnceEnded : ConnectionState → ConnectionState → Type 0
+StaysOnceEnded old new = (cause : Cause) → old.cause ≡ Some cause → IsHeldAsBefore old new
+
+-- bytes come and pieces are handed out of one that stands
+standing_changes : (k : ℕ) (c : ConnectionState) (old new : Board) → ConnectionChanges k c old new → IsNone (connection_at old k).cause → LinesGoOn StaysOnceEnded old new
+standing_changes k c old new changes stands =
+    change_lines StaysOnceEnded (λ x cause ended. held_still x) k c old new changes (λ cause ended. absurd (none_some cause (sym (none_is _ stands) ∙ ended)))
+
+held_once_ended : (happening : Happening) (old new : Board) → Happens happening old new → (i : ℕ) → i < length old.connections → (cause : Cause) → (connection_at old i).cause ≡ Some cause
+    → IsHeldAsBefore (connection_at old i) (connection_at new i)
+held_once_ended (accepts number at) old new is i within ended was = (held_before (accepts number at) old new refl is).each i within
+held_once_ended (dials s number at) old new is i within ended was = (held_before (dials s number at) old new refl is).each i within
+held_once_ended (takes k bytes) old new is i within ended was = (standing_changes k _ old new is.changes is.stands).each i within ended was
+held_once_ended (gives k) old new is i within ended was = (standing_changes k _ old new is.changes is.stands).each i within ended was
+held_once_ended (binds s k body at) old new is i within ended was = (held_before (binds s k body at) old new refl is).each i within
+held_once_ended (binds_and_ends s k body at cause) old new is i within ended was = (held_before (binds_and_ends s k body at cause) old new refl is).each i within
+held_once_ended (receives s k body at) old new is i within ended was = (held_before (receives s k body at) old new refl is).each i within
+held_once_ended (answers k) old new is i within ended was = (held_before (answers k) old new refl is).each i within
+held_once_ended (ticks s at) old new is i within ended was = (held_before (ticks s at) old new refl is).each i within
+held_once_ended (shows s w bodies at until) old new is i within ended was = (held_before (shows s w bodies at until) old new refl is).each i within
+held_once_ended (times_out s w bodies at until) old new is i within ended was = (held_before (times_out s w bodies at until) old new refl is).each i within
+held_once_ended (requests s library nr from) old new is i within ended was = (held_before (requests s library nr from) old new refl is).each i within
+held_once_ended (lapses s) old new is i within ended was = (held_before (lapses s) old new refl is).each i within
+held_once_ended (ends_unbound k cause) old new is i within ended was = (held_before (ends_unbound k cause) old new refl is).each i within
+held_once_ended (ends_bound s k cause) old new is i within ended was = (held_before (ends_bound s k cause) old new refl is).each i within
+held_once_ended (prepares s k) old new is i within ended was = (held_before (prepares s k) old new refl is).each i within
+held_once_ended (writes k n) old new is i within ended was = (changing_holds k _ old new is.changes (record { taken = refl; held = refl; garbled = refl })).each i within
+held_once_ended (reserves s) old new is i within ended was = (held_before (reserves s) old new refl is).each i within
+
+-- and however many happenings there are
+pub held_over : GoingLaws → (happenings : List Happening) (old new : Board) → Reaches happenings old new → (k : ℕ) → k < length old.connections → (cause : Cause)
+    → (connection_at old k).cause ≡ Some cause → IsHeldAsBefore (connection_at old k) (connection_at new k)
+held_over l [] old new reached k within cause ended = subst (λ (board : Board). IsHeldAsBefore (connection_at old k) (connection_at board k)) (sym reached) (held_still (connection_at old k))
+held_over l (happening ∷ happenings) old new reached k within cause ended =
+    let goes = happened l happening old reached.0 reached.1.0 in
+    held_further (connection_at old k) (connection_at reached.0 k) (connection_at new k) (held_once_ended happening old reached.0 reached.1.0 k within cause ended)
+    (held_over l happenings reached.0 new reached.1.1 k (let more = goes.more in omega arith) cause ((goes.each k within).ended cause ended))
 
 -- as many connections as before
 outbox_count : (place : Option ℕ) (old new : Board) → OutboxChanges place old new → length new.connections ≡ length old.connections

@@ -42,6 +42,12 @@ is_quiet (gives k) = false
 is_quiet (writes k n) = false
 is_quiet _ = true
 
+-- what came of a connection is as it was: the bytes that were taken, those that are held, and how many were garbled
+pub record IsHeldAsBefore (old new : ConnectionState) : Type 0 where
+  pub taken : new.taken ≡ old.taken
+  pub held : new.held ≡ old.held
+  pub garbled : new.garbled ≡ old.garbled
+
 -- the bytes of a connection are as they were: those that came, those that are held, and those that were written
 pub record KeepsBytes (old new : ConnectionState) : Type 0 where
   pub taken : new.taken ≡ old.taken

@@ -1,6 +1,6 @@
 //! Which connection a session is bound to.
 
-ghost use Rattle.std.specs.Prelude.{◌≡◌, ◌≢◌, ◌<◌, ◌≤◌, ◌+◌, ◌⊎◌, ◌∷◌, ◌++◌, [], length, None, Some, IsNone, IsSome, IfOk, OnOk, OnErr, List, slice_set, take, true};
+ghost use Rattle.std.specs.Prelude.{◌≡◌, ◌≢◌, ◌<◌, ◌≤◌, ◌+◌, ◌^◌, ◌⊎◌, ◌∷◌, ◌++◌, [], length, None, Some, IsNone, IsSome, IfOk, OnOk, OnErr, List, slice_set, take, true};
 ghost use Rattle.connection_core.specs.Connection.{after_end, fresh_dial};
 ghost use Rattle.connection_core.specs.Outgoing.{no_outgoing};
 ghost use Rattle.lease_core.specs.State.{state_of};
@@ -36,7 +36,7 @@ impl Switchboard {
     ) -> Result<Option<Cause>, NoMemory>
         requires moment { at ≤ LAST_MOMENT }
         requires session { s < length self.old.sessions }
-        requires few { s < 65536 }
+        requires few { s < 2 ^ 16 }
         requires connection { k < length self.old.connections }
         requires unbound { IsNone (connection_at self.old k).session }
         requires free { (state_of (book_at self.old s).entries).bound ≡ None }
@@ -67,7 +67,7 @@ impl Switchboard {
     pub fn dial(&mut self, alloc: Global, s: usize, number: u32, at: u64) -> Result<usize, NoMemory>
         requires moment { at ≤ LAST_MOMENT }
         requires session { s < length self.old.sessions }
-        requires few { s < 65536 }
+        requires few { s < 2 ^ 16 }
         requires dials { IsSome (book_at self.old s).machine.dials }
         requires free { (state_of (book_at self.old s).entries).bound ≡ None }
         ensures place { IfOk result (λ k. k ≡ length self.old.connections) }

@@ -13,7 +13,7 @@ ghost use Rattle.session_book.specs.Acts.{IsBoundIn};
 ghost use Rattle.session_book.specs.Kept.{Kept};
 ghost use Rattle.switchboard.specs.Board.{Board, DeskChanges, PlugChanges, book_at, connection_at, place_at, session_at, with_connection, with_connections, with_session, with_session_more};
 ghost use Rattle.switchboard.specs.Brought.{Brought, IsBrought, TakeWhatIsInHand, TakesWhatIsInHand, brought_after, brought_over, nothing_brought};
-ghost use Rattle.switchboard.specs.Going.{GoesOnTo, IsWrittenAsBefore, KeepsBytes, is_coming, is_quiet, is_writing};
+ghost use Rattle.switchboard.specs.Going.{GoesOnTo, IsHeldAsBefore, IsWrittenAsBefore, KeepsBytes, is_coming, is_quiet, is_writing};
 ghost use Rattle.switchboard.specs.Happenings.{BindsTo, Happening, Happens, Reaches, binds_and_ends, ends_bound};
 ghost use Rattle.switchboard.specs.Ready.{IsFirst, IsReady, entries_of};
 ghost use Rattle.switchboard.specs.Sound.{IsLawful, IsPlugged, IsSameLine, IsSound, bound_of};
@@ -91,6 +91,10 @@ pub fn boards_go_on()
     // Where no bytes come, are cut or written, those of each connection stay.
     ensures quiet { (before : ℕ → List Entry) (happening : Happening) (old new : Board) → is_quiet happening ≡ true → Happens happening old new → IsReady before old
         → (k : ℕ) → k < length old.connections → KeepsBytes (connection_at old k) (connection_at new k) }
+    // Of a connection that has ended nothing more is taken, held or garbled: so garbled is the sum before
+    // the piece that ended it.
+    ensures ended { (happenings : List Happening) (old new : Board) → Reaches happenings old new → (k : ℕ) → k < length old.connections → (cause : Cause) → (connection_at old k).cause ≡ Some cause
+        → IsHeldAsBefore (connection_at old k) (connection_at new k) }
     // Where no connection comes there are as many as before.
     ensures count { (happening : Happening) (old new : Board) → is_coming happening ≡ false → Happens happening old new → length new.connections ≡ length old.connections }
 {

@@ -1,5 +1,5 @@
 use Rattle.switchboard.proofs.Going.{GoingLaws, goes_further, goes_nowhere, happened, ran}
-use Rattle.switchboard.proofs.Quiet.{counted, held_before}
+use Rattle.switchboard.proofs.Quiet.{counted, held_before, held_over}
 use Rattle.switchboard.proofs.Written.{written_before}
 use Rattle.switchboard.specs.Going.{is_quiet, is_writing}
 use Rattle.switchboard.specs.Happenings.{Happening, accepts, answers, binds, binds_and_ends, dials, ends_bound, ends_unbound, gives, lapses, prepares, receives, requests, reserves, shows, takes, ticks, times_out, writes}
@@ -68,6 +68,9 @@ returns-clause-quiet c = λ before happening old new quiet is ready k within.
       garbled = held.garbled;
       written = (written_before before happening old new (writes_nothing happening quiet) is ready).each k within;
     }
+
+pub returns-clause-ended : goal.returns-clause-ended
+returns-clause-ended c = held_over (laws c)
 
 pub returns-clause-count : goal.returns-clause-count
 returns-clause-count c = counted
