@@ -4,6 +4,7 @@ use Rattle.std.specs.Prelude.{slice_get}
 use Rattle.std.proofs.lemmas.Bool.{cases_eq}
 use Rattle.std.proofs.lemmas.Option.{slice_get_within}
 use Rattle.lease_core.specs.Kept.{Kept}
+use Rattle.lease_core.specs.Laws.{RunsGoOn}
 use Rattle.lease_core.specs.State.{state_of}
 use Rattle.lease_core.specs.Runs.{IsNext}
 use Rattle.lease_core.specs.declared.entry.Entry.{Entry}
@@ -24,8 +25,8 @@ kept_same leases old new records kept same len = record {
   limits = λ s k at. let was = same s k at in was.3 ∙ kept.limits s was.0 was.1;
 }
 
-pub kept_taken : (leases : ℕ) (old new : List Kept) (records : List Record) (r : Record) → AreKept leases old records → TakesEntry old r.s r.entry new → length new ≡ length old → AreKept leases new (records ++ r ∷ [])
-kept_taken leases old new records r kept takes len =
+pub kept_taken : RunsGoOn → (leases : ℕ) (old new : List Kept) (records : List Record) (r : Record) → AreKept leases old records → TakesEntry old r.s r.entry new → length new ≡ length old → AreKept leases new (records ++ r ∷ [])
+kept_taken go_on leases old new records r kept takes len =
     let was = takes.was in
     let entries_were : was.entries ≡ entries_of r.s records = kept.entries r.s was takes.of_session in
     let limit_was : was.leases ≡ leases = kept.limits r.s was takes.of_session in
@@ -33,7 +34,7 @@ kept_taken leases old new records r kept takes len =
     subst (λ (es : List Entry). IsNext leases (state_of es) r.entry) entries_were (subst (λ (n : ℕ). IsNext n (state_of was.entries) r.entry) limit_was takes.next) in
     let in_range : r.s < length old = slice_get_within old r.s was takes.of_session in
     record {
-      runs = subst (λ (n : ℕ). AreRuns n leases (records ++ r ∷ [])) (sym len) (runs_more (length old) leases records r kept.runs in_range next);
+      runs = subst (λ (n : ℕ). AreRuns n leases (records ++ r ∷ [])) (sym len) (runs_more go_on (length old) leases records r kept.runs in_range next);
       entries = λ s k at. elim (cases_eq s r.s) [
         | inl same ↦
             (takes.now k (subst (λ (n : ℕ). slice_get new n ≡ Some k) same at)).0
@@ -48,12 +49,12 @@ kept_taken leases old new records r kept takes len =
       ];
     }
 
-pub kept_refused : (leases : ℕ) (old : List Kept) (records : List Record) (r : Record) → AreKept leases old records → RefusesEntry old r.s r.entry → AreRuns (length old) leases (records ++ r ∷ []) → ⊥
-kept_refused leases old records r kept refuses runs =
+pub kept_refused : RunsGoOn → (leases : ℕ) (old : List Kept) (records : List Record) (r : Record) → AreKept leases old records → RefusesEntry old r.s r.entry → AreRuns (length old) leases (records ++ r ∷ []) → ⊥
+kept_refused go_on leases old records r kept refuses runs =
     let in_range = session_last (length old) leases records r runs in
     let found = got old r.s in_range in
     let was = found.0 in
-    let next = runs_last (length old) leases records r runs in
+    let next = runs_last go_on (length old) leases records r runs in
     refuses was found.1 (subst (λ (es : List Entry). IsNext was.leases (state_of es) r.entry) (sym (kept.entries r.s was found.1)) (subst (λ (n : ℕ). IsNext n (state_of (entries_of r.s records)) r.entry) (sym (kept.limits r.s was found.1)) next))
 
 -- no entries yet

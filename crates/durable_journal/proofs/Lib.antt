@@ -9,5 +9,6 @@ pub mod Plain
 pub mod Rests
 pub mod Runs
 pub mod Sessions
+pub mod Short
 pub mod Steps
 pub mod Wholes

@@ -1,9 +1,11 @@
 -- The texts of session messages that answer a message whose fields can be read.
-use Rattle.std.proofs.Common.{◌≡◌, ℕ, ◌<◌, ◌^◌, Bool, true, false, List, [], ◌∷◌, ◌++◌, length, refl, sym, ap, subst, ◌∙◌, arith, if◌then◌else◌}
+use Rattle.std.proofs.Common.{◌≡◌, ℕ, ◌<◌, ◌^◌, Bool, true, false, List, [], ◌∷◌, ◌++◌, length, refl, sym, ap, subst, ◌∙◌, arith, if◌then◌else◌, length-append, ◌≤◌}
 use Rattle.std.specs.Prelude.{Option, None, Some, codes, decimal, nat_le, ◌==◌, ◌||◌, find, unwrap_or, not}
 use Rattle.std.specs.List.{list_all}
 use Rattle.std.specs.Option.{option_map, option_map_or, option_and_then}
+use Rattle.std.proofs.lemmas.Bool.{leb-true}
 use Rattle.std.proofs.lemmas.Bool.Decides.{nat_tests}
+use Rattle.std.proofs.lemmas.Fmt.{length-decimal-le}
 use Rattle.fix_fields.specs.Field.{Field, no_field, has_soh}
 use Rattle.fix_fields.specs.Pairs.{pairs, pair_of, data_tag_of, is_data_of}
 use Rattle.fix_fields.specs.Body.{MayFollow, AllAfter}
@@ -12,7 +14,8 @@ use Rattle.session_core.specs.Replies.{reject_for, test_answer, test_answer_of, 
 use Rattle.session_core.specs.Said.{type_of}
 use Rattle.session_core.specs.declared.acts.Admin.TheVariants.{Heartbeat}
 use Rattle.session_core.specs.declared.replies.TheConstants.{LONGEST_TEST}
-use Rattle.durable_journal.specs.Records.{IsPlain, IsPlainAdmin}
+use Rattle.durable_journal.specs.declared.limits.TheConstants.{LONGEST_TEXT}
+use Rattle.durable_journal.specs.Records.{IsPlain, IsPlainAdmin, IsShortText}
 
 -- no data field of these pairs has this tag
 abbrev lacks : ℕ → List (ℕ × ℕ) → Bool
@@ -72,10 +75,10 @@ module _ (fields : List Field) (lawful : AllAfter MayFollow no_field fields) (ki
 
   plain_found : (found : Option (List ℕ)) → first_value 112 fields ≡ found → IsPlainAdmin (test_answer_of n fields found)
   plain_found None is = plain_reject 112 1 (omega arith) (omega arith)
-  plain_found (Some test) is = elim (nat_le (length test) LONGEST_TEST) as (λ b. IsPlainAdmin (if b then Heartbeat (Some test) else reject_for n fields 112 5)) [
-    | true ↦ plain_value 112 (no_data 112 refl) no_field fields lawful test is
-    | false ↦ plain_reject 112 5 (omega arith) (omega arith)
-  ]
+  plain_found (Some test) is = elim (nat_le (length test) LONGEST_TEST) as (λ b. nat_le (length test) LONGEST_TEST ≡ b → IsPlainAdmin (if b then Heartbeat (Some test) else reject_for n fields 112 5)) [
+    | true ↦ λ few. record { plain = plain_value 112 (no_data 112 refl) no_field fields lawful test is; short = leb-true (length test) LONGEST_TEST few }
+    | false ↦ λ many. plain_reject 112 5 (omega arith) (omega arith)
+  ] refl
 
   pub plain_test : IsPlainAdmin (test_answer n fields)
   unfolding test_answer
@@ -88,9 +91,19 @@ none_in_both (c ∷ a) b na nb =
     let rest : has_soh a ≡ false = grind (arith, nat_tests, na) in
     grind (arith, nat_tests, na, none_in_both a b rest nb)
 
-pub plain_low : (expected got : ℕ) → has_soh (decimal expected) ≡ false → has_soh (decimal got) ≡ false → IsPlain (low_text expected got)
+low_length : (expected got : ℕ) → expected < 2 ^ 64 → got < 2 ^ 64 → length (low_text expected got) ≤ LONGEST_TEXT
 unfolding low_text
-plain_low expected got first second =
+low_length expected got small little =
+    let digits = length-decimal-le 20 expected (omega arith) (omega arith) (omega arith) in
+    let more = length-decimal-le 20 got (omega arith) (omega arith) (omega arith) in
+    let first = length-append (codes "MsgSeqNum too low, expecting ") (decimal expected) in
+    let second = length-append (codes "MsgSeqNum too low, expecting " ++ decimal expected) (codes " but received ") in
+    let third = length-append (codes "MsgSeqNum too low, expecting " ++ decimal expected ++ codes " but received ") (decimal got) in
+    omega (arith, digits, more, first, second, third)
+
+low_plain : (expected got : ℕ) → has_soh (decimal expected) ≡ false → has_soh (decimal got) ≡ false → IsPlain (low_text expected got)
+unfolding low_text
+low_plain expected got first second =
     let said = none_in_both (codes "MsgSeqNum too low, expecting ") (decimal expected) refl first in
     let more = none_in_both (codes "MsgSeqNum too low, expecting " ++ decimal expected) (codes " but received ") said refl in
     record {
@@ -98,6 +111,9 @@ plain_low expected got first second =
       no_soh = none_in_both (codes "MsgSeqNum too low, expecting " ++ decimal expected ++ codes " but received ") (decimal got) more second;
     }
 
-pub plain_no_number : IsPlain no_number_text
+pub plain_low : (expected got : ℕ) → expected < 2 ^ 64 → got < 2 ^ 64 → has_soh (decimal expected) ≡ false → has_soh (decimal got) ≡ false → IsShortText (low_text expected got)
+plain_low expected got small little first second = record { plain = low_plain expected got first second; short = low_length expected got small little }
+
+pub plain_no_number : IsShortText no_number_text
 unfolding no_number_text
-plain_no_number = record { some = λ empty. absurd cc; no_soh = refl }
+plain_no_number = record { plain = record { some = λ empty. absurd cc; no_soh = refl }; short = omega arith }

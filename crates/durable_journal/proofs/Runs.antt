@@ -1,10 +1,11 @@
 -- The entries of sessions, and when they are runs.
 use Rattle.std.proofs.Common.{◌≡◌, ◌≢◌, inl, inr, ℕ, ◌<◌, Bool, true, false, cond, List, [], ◌∷◌, ◌++◌, refl, sym, ap, subst, ◌∙◌, arith}
-use Rattle.std.specs.Prelude.{◌==◌, fold}
+use Rattle.std.specs.Prelude.{◌==◌}
 use Rattle.std.specs.List.{AllByRecursion}
 use Rattle.std.proofs.lemmas.List.{append-nil}
 use Rattle.std.proofs.lemmas.Bool.{cases_eq}
 use Rattle.std.proofs.lemmas.Bool.Decides.{nat_tests}
+use Rattle.lease_core.specs.Laws.{RunsGoOn}
 use Rattle.lease_core.specs.State.{State, state_after, opening, state_of}
 use Rattle.lease_core.specs.Runs.{IsNext, IsRun, IsRunFrom}
 use Rattle.lease_core.specs.declared.entry.Entry.{Entry}
@@ -15,25 +16,9 @@ from_front : (limit : ℕ) (s : State) (es fs : List Entry) → IsRunFrom limit 
 from_front limit s [] fs run = tt
 from_front limit s (e ∷ es) fs run = (run.0, from_front limit (state_after s e) es fs run.1)
 
-from_more : (limit : ℕ) (s : State) (es : List Entry) (e : Entry) → IsRunFrom limit s es → IsNext limit (fold state_after s es) e → IsRunFrom limit s (es ++ e ∷ [])
-from_more limit s [] e run next = (next, tt)
-from_more limit s (x ∷ es) e run next = (run.0, from_more limit (state_after s x) es e run.1 next)
-
-from_last : (limit : ℕ) (s : State) (es : List Entry) (e : Entry) → IsRunFrom limit s (es ++ e ∷ []) → IsNext limit (fold state_after s es) e
-from_last limit s [] e run = run.0
-from_last limit s (x ∷ es) e run = from_last limit (state_after s x) es e run.1
-
 pub run_front : (limit : ℕ) (es fs : List Entry) → IsRun limit (es ++ fs) → IsRun limit es
 unfolding IsRun
 run_front limit es fs run = from_front limit opening es fs run
-
-pub run_more : (limit : ℕ) (es : List Entry) (e : Entry) → IsRun limit es → IsNext limit (state_of es) e → IsRun limit (es ++ e ∷ [])
-unfolding IsRun state_of
-run_more limit es e run next = from_more limit opening es e run next
-
-pub run_last : (limit : ℕ) (es : List Entry) (e : Entry) → IsRun limit (es ++ e ∷ []) → IsNext limit (state_of es) e
-unfolding IsRun state_of
-run_last limit es e run = from_last limit opening es e run
 
 pub run_none : (limit : ℕ) → IsRun limit []
 unfolding IsRun
@@ -82,17 +67,17 @@ entries_other s xs r is = entries_append s xs (r ∷ []) ∙ (ap (λ (es : List 
     none = grind (arith, nat_tests)
 
 -- one record more
-pub runs_more : (sessions leases : ℕ) (xs : List Record) (r : Record) → AreRuns sessions leases xs → r.s < sessions → IsNext leases (state_of (entries_of r.s xs)) r.entry → AreRuns sessions leases (xs ++ r ∷ [])
-runs_more sessions leases xs r runs in_range next = record {
+pub runs_more : RunsGoOn → (sessions leases : ℕ) (xs : List Record) (r : Record) → AreRuns sessions leases xs → r.s < sessions → IsNext leases (state_of (entries_of r.s xs)) r.entry → AreRuns sessions leases (xs ++ r ∷ [])
+runs_more go_on sessions leases xs r runs in_range next = record {
   in_sessions = all_more sessions xs (r ∷ []) runs.in_sessions (in_range, tt);
   runs = λ s. elim (cases_eq r.s s) [
-    | inl same ↦ subst (IsRun leases) (sym (entries_same s xs r same)) (subst (λ (k : ℕ). IsRun leases (entries_of k xs ++ r.entry ∷ [])) same (run_more leases (entries_of r.s xs) r.entry (runs.runs r.s) next))
+    | inl same ↦ subst (IsRun leases) (sym (entries_same s xs r same)) (subst (λ (k : ℕ). IsRun leases (entries_of k xs ++ r.entry ∷ [])) same ((go_on leases (entries_of r.s xs) r.entry).1 (runs.runs r.s, next)))
     | inr other ↦ subst (IsRun leases) (sym (entries_other s xs r other)) (runs.runs s)
   ];
 }
 
-pub runs_last : (sessions leases : ℕ) (xs : List Record) (r : Record) → AreRuns sessions leases (xs ++ r ∷ []) → IsNext leases (state_of (entries_of r.s xs)) r.entry
-runs_last sessions leases xs r runs = run_last leases (entries_of r.s xs) r.entry (subst (IsRun leases) (entries_same r.s xs r refl) (runs.runs r.s))
+pub runs_last : RunsGoOn → (sessions leases : ℕ) (xs : List Record) (r : Record) → AreRuns sessions leases (xs ++ r ∷ []) → IsNext leases (state_of (entries_of r.s xs)) r.entry
+runs_last go_on sessions leases xs r runs = ((go_on leases (entries_of r.s xs) r.entry).0 (subst (IsRun leases) (entries_same r.s xs r refl) (runs.runs r.s))).1
 
 pub session_last : (sessions leases : ℕ) (xs : List Record) (r : Record) → AreRuns sessions leases (xs ++ r ∷ []) → r.s < sessions
 session_last sessions leases xs r runs = all_last sessions xs r runs.in_sessions

@@ -7,9 +7,10 @@ use Rattle.std.proofs.lemmas.List.{take_more, take_all, take_at, drop_at, drop_m
 use Rattle.fix_fields.specs.Field.{has_soh}
 use Rattle.session_core.specs.declared.acts.Admin.{Admin}
 use Rattle.session_core.specs.declared.acts.Admin.TheVariants.{Logon, Heartbeat, TestRequest, ResendRequest, Reject, Logout}
-use Rattle.durable_journal.specs.declared.admins.TheConstants.{LONGEST_KIND, LONG_KIND}
+use Rattle.durable_journal.specs.declared.admins.TheConstants.{LONG_KIND}
+use Rattle.session_core.specs.declared.admin_text.TheConstants.{LONGEST_KIND}
 use Rattle.session_core.specs.Admin.{admin_text, logon_text, heartbeat_text, test_request_text, resend_request_text, reject_text, logout_text}
-use Rattle.durable_journal.specs.Records.{IsPlain, IsPlainAdmin}
+use Rattle.durable_journal.specs.Records.{IsPlain, IsPlainAdmin, IsShortText}
 use Rattle.durable_journal.specs.Admins.{HoldsOfSome, IsTextOf, logon_rest, text_rest, resend_rest, reject_rest, kind_rest, reason_rest, NamesReject, IsNamedAs}
 use Rattle.durable_journal.proofs.Once.{Same}
 
@@ -119,7 +120,7 @@ module _ (body rest : List ℕ) (kind : ℕ) (found : Option Admin) (text : body
       by_cases (Reject seq tag kd reason) plain t = absurd (omega (arith, k, (same (Reject seq tag kd reason) number t).0))
       by_cases (Logout said) plain t = absurd (omega (arith, k, (same (Logout said) number t).0))
 
-  pub heartbeat_arm : kind ≡ 48 → (rest ≡ [] → found ≡ Some (Heartbeat None)) → ((test : List ℕ) → IsPlain test → rest ≡ text_rest (codes "112=") (Some test) → found ≡ Some (Heartbeat (Some test))) → IsTextOf body found
+  pub heartbeat_arm : kind ≡ 48 → (rest ≡ [] → found ≡ Some (Heartbeat None)) → ((test : List ℕ) → IsShortText test → rest ≡ text_rest (codes "112=") (Some test) → found ≡ Some (Heartbeat (Some test))) → IsTextOf body found
   heartbeat_arm k none some number is = by_cases is.admin is.plain is.text
     where
       by_cases : (a : Admin) → IsPlainAdmin a → body ≡ admin_text a number → HoldsOfSome found (λ x. body ≡ admin_text x number)
@@ -168,7 +169,7 @@ module _ (body rest : List ℕ) (kind : ℕ) (found : Option Admin) (text : body
       by_cases (Reject seq tag kd reason) plain t = named found seq tag kd reason t (only seq tag kd reason plain.0 plain.1 plain.2 plain.3 (sym (same (Reject seq tag kd reason) number t).1))
       by_cases (Logout said) plain t = absurd (omega (arith, k, (same (Logout said) number t).0))
 
-  pub logout_arm : kind ≡ 53 → (rest ≡ [] → found ≡ Some (Logout None)) → ((said : List ℕ) → IsPlain said → rest ≡ text_rest (codes "58=") (Some said) → found ≡ Some (Logout (Some said))) → IsTextOf body found
+  pub logout_arm : kind ≡ 53 → (rest ≡ [] → found ≡ Some (Logout None)) → ((said : List ℕ) → IsShortText said → rest ≡ text_rest (codes "58=") (Some said) → found ≡ Some (Logout (Some said))) → IsTextOf body found
   logout_arm k none some number is = by_cases is.admin is.plain is.text
     where
       by_cases : (a : Admin) → IsPlainAdmin a → body ≡ admin_text a number → HoldsOfSome found (λ x. body ≡ admin_text x number)

@@ -2,8 +2,8 @@
 use Rattle.std.specs.Prelude.{◌≡◌, ℕ, Bool, true, false, List, [], ◌∷◌, ◌++◌, length, nat_le, if◌then◌else◌, codes, decimal, Option, Some, None}
 use Rattle.session_core.specs.declared.acts.Admin.{Admin}
 use Rattle.session_core.specs.declared.acts.Admin.TheVariants.{Reject}
-use Rattle.durable_journal.specs.declared.admins.TheConstants.{LONGEST_KIND}
 use Rattle.session_core.specs.Admin.{admin_text}
+use Rattle.session_core.specs.declared.admin_text.TheConstants.{LONGEST_KIND}
 use Rattle.durable_journal.specs.Records.{IsAdminBody}
 
 -- there is one, and this holds of it

@@ -6,6 +6,7 @@ use Rattle.fix_frame.specs.Frame.{IsBody, frame_of}
 use Rattle.fix_fields.specs.Field.{Field, has_soh}
 use Rattle.fix_fields.specs.Fit.{unfit_at}
 use Rattle.fix_fields.specs.Reading.{fields_of}
+use Rattle.fix_fields.specs.declared.limits.TheConstants.{LONGEST_APPLICATION_BODY}
 use Rattle.session_core.specs.Admin.{admin_text}
 use Rattle.session_core.specs.declared.acts.Admin as admins
 use Rattle.session_core.specs.declared.acts.Admin.TheVariants.{Logon, Heartbeat, TestRequest, ResendRequest, Reject, Logout}
@@ -16,7 +17,7 @@ use Rattle.lease_core.specs.declared.entry.Entry.TheVariants.{Arrive, Admin, Pla
 use Rattle.lease_core.specs.declared.entry.Why.{Why}
 use Rattle.lease_core.specs.declared.entry.Why.TheVariants.{UnknownSession, OtherOwner, Reserved, LeasesSpent, MissingMessages}
 use Rattle.lease_core.specs.declared.record.Record.{Record}
-use Rattle.durable_journal.specs.declared.limits.TheConstants.{LAST_EXPECTED, LONGEST_SENT}
+use Rattle.durable_journal.specs.declared.limits.TheConstants.{LAST_EXPECTED, LONGEST_TEXT}
 
 abbrev pub IsMoment : ℕ → Type 0
 IsMoment at = at ≤ LAST_MOMENT
@@ -49,23 +50,28 @@ pub record IsInboundBody (body : List ℕ) : Type 0 where
 -- the body of a message that a library sent
 pub record IsSentBody (body : List ℕ) : Type 0 where
   pub fit : unfit_at body ≡ None
-  pub short : length body ≤ LONGEST_SENT
+  pub short : length body ≤ LONGEST_APPLICATION_BODY
 
 -- a text that may be the value of a field
 pub record IsPlain (text : List ℕ) : Type 0 where
   pub some : text ≢ []
   pub no_soh : has_soh text ≡ false
 
+-- such a text that a session may send
+pub record IsShortText (text : List ℕ) : Type 0 where
+  pub plain : IsPlain text
+  pub short : length text ≤ LONGEST_TEXT
+
 -- a session message with numbers and texts that can be
 abbrev pub IsPlainAdmin : admins.Admin → Type 0
 IsPlainAdmin (Logon heart reset) = heart < 2 ^ 32
 IsPlainAdmin (Heartbeat None) = Unit {0}
-IsPlainAdmin (Heartbeat (Some test)) = IsPlain test
+IsPlainAdmin (Heartbeat (Some test)) = IsShortText test
 IsPlainAdmin TestRequest = Unit {0}
 IsPlainAdmin (ResendRequest begin last) = (begin < 2 ^ 32) × (last < 2 ^ 32)
 IsPlainAdmin (Reject seq tag kind reason) = (seq < 2 ^ 32) × (tag < 2 ^ 32) × IsPlain kind × (reason < 2 ^ 8)
 IsPlainAdmin (Logout None) = Unit {0}
-IsPlainAdmin (Logout (Some text)) = IsPlain text
+IsPlainAdmin (Logout (Some text)) = IsShortText text
 
 -- the body of a session message that was sent under this number
 pub record IsAdminBody (number : ℕ) (body : List ℕ) : Type 0 where

@@ -4,9 +4,10 @@
 ghost use Rattle.std.specs.Prelude.{◌≡◌, ◌<◌, ◌^◌, ◌↔◌, ◌++◌, ◌∷◌, ℕ, Bool, List, [], false, Some, None, codes, decimal, IsTrue, IfOk, IfSome, IfNone};
 ghost use Rattle.session_core.specs.declared.acts.Admin.{Admin};
 ghost use Rattle.fix_fields.specs.Field.{has_soh};
-ghost use Rattle.durable_journal.specs.Records.{IsAdminBody, IsPlain, IsPlainAdmin};
+ghost use Rattle.durable_journal.specs.Records.{IsAdminBody, IsPlain, IsPlainAdmin, IsShortText};
 ghost use Rattle.durable_journal.specs.Admins.{HoldsOfSome, IsTextOf, NamesReject, logon_rest, text_rest, resend_rest, reject_rest, kind_rest, reason_rest, IsNamedAs};
 
+use crate::limits::LONGEST_TEXT;
 use fix_fields::laws::{numbers_read_again, texts_are_plain};
 use fix_fields::read_number;
 use gate_io::{Bytes, NoMemory};
@@ -15,9 +16,6 @@ use std::alloc::Global;
 
 /// The byte that ends a field.
 const SOH: u8 = 1;
-
-/// A Reject names no message type (372) with more bytes.
-const LONGEST_KIND: usize = 32;
 
 /// A message type that a Reject doesn't name.
 const LONG_KIND: &[u8] = b"a type with more than thirty-two bytes";
@@ -78,7 +76,7 @@ fn logon_like(rest: &[u8]) -> Option<Admin>
 fn heartbeat_like(alloc: Global, rest: &[u8]) -> Result<Option<Admin>, NoMemory>
     ensures plain { IfOk result (λ found. IfSome found IsPlainAdmin) }
     ensures none { IfOk result (λ found. rest.now ≡ [] → found ≡ Some (Admin.Heartbeat None)) }
-    ensures some { IfOk result (λ found. (test : List ℕ) → IsPlain test → rest.now ≡ text_rest (codes "112=") (Some test) → found ≡ Some (Admin.Heartbeat (Some test))) }
+    ensures some { IfOk result (λ found. (test : List ℕ) → IsShortText test → rest.now ≡ text_rest (codes "112=") (Some test) → found ≡ Some (Admin.Heartbeat (Some test))) }
 {
     if rest.is_empty() {
         return Ok(Some(Admin::Heartbeat { test: None }));
@@ -92,7 +90,7 @@ fn heartbeat_like(alloc: Global, rest: &[u8]) -> Result<Option<Admin>, NoMemory>
 fn logout_like(alloc: Global, rest: &[u8]) -> Result<Option<Admin>, NoMemory>
     ensures plain { IfOk result (λ found. IfSome found IsPlainAdmin) }
     ensures none { IfOk result (λ found. rest.now ≡ [] → found ≡ Some (Admin.Logout None)) }
-    ensures some { IfOk result (λ found. (said : List ℕ) → IsPlain said → rest.now ≡ text_rest (codes "58=") (Some said) → found ≡ Some (Admin.Logout (Some said))) }
+    ensures some { IfOk result (λ found. (said : List ℕ) → IsShortText said → rest.now ≡ text_rest (codes "58=") (Some said) → found ≡ Some (Admin.Logout (Some said))) }
 {
     if rest.is_empty() {
         return Ok(Some(Admin::Logout { text: None }));
@@ -174,14 +172,16 @@ fn split_kind(rest: &[u8]) -> Option<(&[u8], &[u8])>
 
 /// The text of the one field with this tag, whose `=` is handed in with it.
 fn text(alloc: Global, rest: &[u8], tag: &[u8]) -> Result<Option<Bytes>, NoMemory>
-    ensures plain { IfOk result (λ found. IfSome found IsPlain) }
-    ensures only { IfOk result (λ found. (said : List ℕ) → IsPlain said → rest.now ≡ tag.now ++ (said ++ 1 ∷ []) → found ≡ Some said) }
+    ensures plain { IfOk result (λ found. IfSome found IsShortText) }
+    ensures only { IfOk result (λ found. (said : List ℕ) → IsShortText said → rest.now ≡ tag.now ++ (said ++ 1 ∷ []) → found ≡ Some said) }
 {
     let Some(rest) = strip(rest, tag) else {
         return Ok(None);
     };
     match value(rest) {
-        Some((said, _)) if !said.is_empty() => Ok(Some(Bytes::of(said.to_vec(alloc)?))),
+        Some((said, _)) if !said.is_empty() && said.len() <= LONGEST_TEXT => {
+            Ok(Some(Bytes::of(said.to_vec(alloc)?)))
+        }
         _ => Ok(None),
     }
 }

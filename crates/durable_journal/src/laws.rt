@@ -1,9 +1,10 @@
 //! Laws of the definitions that the contracts of this crate cite. The functions do nothing.
 
-ghost use Rattle.std.specs.Prelude.{◌≡◌, ◌++◌, ℕ, List};
+ghost use Rattle.std.specs.Prelude.{◌≡◌, ◌<◌, ◌≤◌, ◌^◌, ◌++◌, ℕ, List, length};
 ghost use Rattle.std.specs.List.{AllByRecursion};
 ghost use Rattle.session_core.specs.Admin.{admin_text};
 ghost use Rattle.session_core.specs.declared.acts.Admin.{Admin};
+ghost use Rattle.session_core.specs.declared.admin_text.TheConstants.{LONGEST_ADMIN};
 ghost use Rattle.lease_core.specs.declared.record.Record.{Record};
 ghost use Rattle.durable_journal.specs.Answers.{AnswersArePlain};
 ghost use Rattle.durable_journal.specs.Disk.{History, IsSynced, after_step, Sync};
@@ -35,6 +36,12 @@ pub fn beginnings_are_runs()
 /// have no SOH, is the body of an Admin's record.
 pub fn session_texts_are_bodies()
     ensures { (admin : Admin) (number : ℕ) → IsPlainAdmin admin → IsAdminBody number (admin_text admin number) }
+{}
+
+/// And it is short, as each body of such a record.
+#[tactic(auto, using(crate::proofs::Short::text_is_short))]
+pub fn session_texts_are_short()
+    ensures { (admin : Admin) (number : ℕ) → IsPlainAdmin admin → number < 2 ^ 64 → length (admin_text admin number) ≤ LONGEST_ADMIN }
 {}
 
 /// The texts with which the session machine answers a message are ones that can be.

@@ -27,6 +27,6 @@ pub use errors::{AppendError, RecoverError};
 pub use file::FileDisk;
 pub use head::RECORD_HEAD;
 pub use journal::Journal;
-pub use limits::{LAST_EXPECTED, LONGEST_JOURNAL, LONGEST_SENT};
+pub use limits::{LAST_EXPECTED, LONGEST_JOURNAL, LONGEST_TEXT};
 pub use memory::{DiskStep, MemDisk};
 pub use recovery::recover;

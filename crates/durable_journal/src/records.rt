@@ -5,8 +5,8 @@ ghost use Rattle.lease_core.specs.Steps.{IsLibrary};
 ghost use Rattle.durable_journal.specs.Records.{IsMoment, IsLawfulWhy, HasLawfulNumbers, IsInboundBody, IsSentBody, HasNone, HasParts, IsRecord};
 
 use crate::admins::is_admin_body;
-use crate::limits::{LAST_EXPECTED, LONGEST_SENT};
-use fix_fields::{FieldError, Fields, check_body};
+use crate::limits::LAST_EXPECTED;
+use fix_fields::{FieldError, Fields, LONGEST_APPLICATION_BODY, check_body};
 use fix_frame::{LONGEST_FRAME, frame_len, is_body};
 use gate_io::{LAST_MOMENT, NoMemory};
 use lease_core::{Entry, MOST_LIBRARIES, Record, Why};
@@ -85,7 +85,7 @@ fn has_none(at: u64, body: &[u8]) -> bool
 fn is_sent_body(body: &[u8]) -> bool
     ensures { IsTrue result ↔ IsSentBody body.now }
 {
-    body.len() <= LONGEST_SENT && check_body(body).is_ok()
+    body.len() <= LONGEST_APPLICATION_BODY && check_body(body).is_ok()
 }
 
 fn is_inbound_body(alloc: Global, body: &[u8]) -> Result<bool, NoMemory>

@@ -8,6 +8,7 @@ ghost use Rattle.durable_journal.specs.Files.{AreRuns};
 ghost use Rattle.durable_journal.specs.Recovered.{ReadSoFar, AreKept, HaveSameEntries, TakesEntry, RefusesEntry};
 
 use gate_io::NoMemory;
+use lease_core::laws::entries_decide_one_by_one;
 use lease_core::{Entry, Record, Recovery};
 use std::alloc::Global;
 use std::marker::Model;
@@ -44,13 +45,14 @@ impl Recovered {
     }
 
     /// Takes one more record, if its session is one and its entry follows there.
-    #[tactic(auto, using(crate::proofs::Kept::kept_same, crate::proofs::Kept::kept_taken, crate::proofs::Kept::kept_refused))]
+    #[tactic(auto, using(crate::proofs::Kept::kept_same))]
     pub(crate) fn take(&mut self, event: Record) -> Result<bool, NoMemory>
         ensures taken { IfOk result (λ taken. taken ≡ true → (self.new).records ≡ (self.old).records ++ event ∷ []) }
         ensures refused { IfOk result (λ taken. taken ≡ false → AreRuns (self.old).sessions (self.old).leases ((self.old).records ++ event ∷ []) → ⊥) }
         ensures sessions { (self.new).sessions ≡ (self.old).sessions }
         ensures leases { (self.new).leases ≡ (self.old).leases }
     {
+        entries_decide_one_by_one();
         self.records.reserve(1)?;
         if !take_entry(&mut self.recoveries, usize::from(event.s), event.entry)? {
             return Ok(false);

@@ -9,6 +9,9 @@ const LONGEST_INBOUND: usize = 65_511;
 /// The most bytes of a body that a library sends.
 const LONGEST_SENT: usize = 8_192;
 
+/// The most bytes of a text in a session message.
+const LONGEST_TEXT: usize = 256;
+
 /// The fields that the gateway writes itself.
 const OWN: [u32; 10] = [8, 9, 10, 34, 35, 43, 49, 52, 56, 122];
 
@@ -60,11 +63,11 @@ fn is_logon(fields: &[Field]) -> bool {
     !encrypted && heart.tag == 108 && is_word(*heart) && resets && fields.len() <= 4
 }
 
-/// No more fields, or one with this tag.
+/// No more fields, or one with this tag, whose text isn't long.
 fn has_text(fields: &[Field], tag: u32) -> bool {
     match fields {
         [_] => true,
-        [_, text] => text.tag == tag,
+        [_, text] => text.tag == tag && text.value.len() <= LONGEST_TEXT,
         _ => false,
     }
 }

@@ -186,9 +186,9 @@ fn bodies_are_those_of_their_kind(rt: HostRuntime) -> Result<(), Fail> {
     Ok(())
 }
 
-/// A message with a text, of so many bytes in all.
-fn long_body(alloc: Global, length: usize) -> Result<Vec<u8>, AllocError> {
-    let mut body = b"35=B\x0158=".to_vec(alloc)?;
+/// A message that begins so and goes on with a text, of so many bytes in all.
+fn long_body(alloc: Global, head: &[u8], length: usize) -> Result<Vec<u8>, AllocError> {
+    let mut body = head.to_vec(alloc)?;
     body.resize(length.saturating_sub(1), b'x')?;
     body.push(1)?;
     Ok(body)
@@ -196,14 +196,21 @@ fn long_body(alloc: Global, length: usize) -> Result<Vec<u8>, AllocError> {
 
 #[test]
 fn bodies_have_a_longest(rt: HostRuntime) -> Result<(), Fail> {
+    let news: &[u8] = b"35=B\x0158=";
+    let heartbeat: &[u8] = b"35=0\x01112=";
+    let logout: &[u8] = b"35=5\x0158=";
     let cases = [
-        (1, 65_511, records(2)),
-        (1, 65_512, damage(0)),
-        (8, 8_192, records(2)),
-        (8, 8_193, damage(0)),
+        (1, news, 65_511, records(2)),
+        (1, news, 65_512, damage(0)),
+        (2, heartbeat, 266, records(2)),
+        (2, heartbeat, 267, damage(0)),
+        (2, logout, 265, records(2)),
+        (2, logout, 266, damage(0)),
+        (8, news, 8_192, records(2)),
+        (8, news, 8_193, damage(0)),
     ];
-    for (kind, length, wanted) in cases {
-        let body = long_body(rt.alloc(), length)?;
+    for (kind, head, length, wanted) in cases {
+        let body = long_body(rt.alloc(), head, length)?;
         let got = with_body(&rt, rt.alloc(), kind, &body)?;
         assert_eq!(rt; got, wanted, "{kind} {length}");
     }

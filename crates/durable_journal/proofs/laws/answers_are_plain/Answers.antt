@@ -8,6 +8,6 @@ returns c =
     record {
       reject = λ body fields n tag reason is. plain_reject fields ((spelled body fields).0 is.are_read).lawful is.kind is.typed n is.small tag reason;
       test = λ body fields n is. plain_test fields ((spelled body fields).0 is.are_read).lawful is.kind is.typed n is.small;
-      low = λ expected got first second. plain_low expected got (numbers expected first) (numbers got second);
+      low = λ expected got first second. plain_low expected got first second (numbers expected first) (numbers got second);
       no_number = plain_no_number;
     }
