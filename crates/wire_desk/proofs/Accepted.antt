@@ -1,16 +1,16 @@
 -- A connection that was accepted or dialled is on the wire.
-use Rattle.std.proofs.Common.{◌≡◌, ℕ, ◌+◌, ◌<◌, ◌≤◌, List, [], ◌∷◌, ◌++◌, length, get_or, Option, None, Some, refl, sym, ap, subst, ◌∙◌, arith}
+use Rattle.std.proofs.Common.{◌≡◌, ℕ, ◌+◌, ◌<◌, ◌≤◌, List, [], ◌∷◌, ◌++◌, length, get_or, Option, None, Some, sym, ap, subst, ◌∙◌, arith}
 use Rattle.std.proofs.Math.Seq.{get_or-append_seam}
 use Rattle.std.specs.Prelude.{IfSome}
 use Rattle.connection_core.specs.Connection.{ConnectionState, fresh, room}
 use Rattle.connection_core.specs.Outgoing.{Outgoing, no_outgoing, written_text}
 use Rattle.connection_core.specs.declared.limits.TheConstants.{MOST_READ}
-use Rattle.gate_io.specs.Wire.{Accepts as TheWireAccepts, Door, IsNew, Link, OthersStay}
+use Rattle.gate_io.specs.Wire.{Accepts as TheWireAccepts, Door, Link, OthersStay}
 use Rattle.gate_io.specs.declared.wires.Accepted.TheVariants.{New}
 use Rattle.gate_io.specs.declared.wires.TheConstants.{FIRST_DIALLED}
 use Rattle.switchboard.specs.Board.{Board, connection_at, no_connection}
 use Rattle.switchboard.specs.Happenings.{Accepts}
-use Rattle.wire_desk.specs.Lines.{IsOnWire, IsWired}
+use Rattle.wire_desk.specs.Lines.{IsWired}
 use Rattle.wire_desk.proofs.Coming.{came_first}
 
 unwritten : (written : Option (List ℕ)) (out : Outgoing) → out ≡ no_outgoing → IfSome written (λ bytes. bytes ≡ []) → IfSome written (λ bytes. bytes ≡ written_text out)

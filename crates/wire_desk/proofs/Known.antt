@@ -1,15 +1,15 @@
 -- What comes to a wire leaves its connections on it.
-use Rattle.std.proofs.Common.{◌≡◌, ◌≢◌, ◌⊎◌, inl, inr, ℕ, zero, suc, ◌-◌, ◌<◌, ◌≤◌, Bool, true, false, List, [], ◌∷◌, ◌++◌, length, get_or, map, set, None, Some, refl, sym, ap, subst, ◌∙◌, arith}
+use Rattle.std.proofs.Common.{◌≡◌, ◌≢◌, ◌⊎◌, inl, inr, ℕ, zero, suc, ◌-◌, ◌<◌, ◌≤◌, Bool, true, false, List, [], ◌∷◌, ◌++◌, get_or, map, set, Some, refl, sym, ap, subst, ◌∙◌, arith}
 use Rattle.std.proofs.lemmas.Bool.{leb-true}
 use Rattle.std.proofs.lemmas.List.{get_or-set_other}
 use Rattle.std.proofs.lemmas.List.Elements.{All-weaker}
 use Rattle.std.specs.Prelude.{if◌then◌else◌}
-use Rattle.gate_io.specs.MemWire.{ChangesLink, LinkState, SameButRoom, WireState, door_of, is_of_dial, link_at, new_link, state_at, with_link, without_room}
+use Rattle.gate_io.specs.MemWire.{ChangesLink, LinkState, SameButRoom, WireState, is_of_dial, new_link, state_at, with_link, without_room}
 use Rattle.gate_io.specs.Wire.{Door, Link}
 use Rattle.gate_io.specs.declared.wires.TheConstants.{FIRST_DIALLED}
 use Rattle.switchboard.specs.Board.{Board, connection_at}
 use Rattle.wire_desk.specs.Dials.{IsDialling}
-use Rattle.wire_desk.specs.Lines.{IsNumbered, IsOnWire, IsOpenPlace, IsWired, KnowsAsBefore, StaysKnown, TookWhatIsWritten}
+use Rattle.wire_desk.specs.Lines.{IsNumbered, IsOpenPlace, IsWired, KnowsAsBefore, StaysKnown}
 use Rattle.wire_desk.specs.declared.dialling.Dialler.{Dialler}
 use Rattle.wire_desk.proofs.Progress.{same_or_other}
 use Rattle.std.specs.Prelude.{IfSome}
@@ -49,31 +49,32 @@ by_kind : (b : Bool) (one two three four : LinkState) → one ≡ three → two 
 by_kind true one two three four first second = first
 by_kind false one two three four first second = second
 
-same_known : (old new : WireState) → door_of new ≡ door_of old → ((c : ℕ) → state_at new c ≡ state_at old c) → StaysKnown old new
-same_known old new door same = record {
-  accepted = ap (λ (d : Door). d.accepted) door;
-  dialled = ap (λ (d : Door). d.dialled) door;
+same_known : (old new : WireState) → new.accepted ≡ old.accepted → new.dialled ≡ old.dialled → ((c : ℕ) → state_at new c ≡ state_at old c) → StaysKnown old new
+same_known old new accepted dialled same = record {
+  accepted = accepted;
+  dialled = dialled;
   closed = λ c. ap (λ (l : LinkState). l.closed) (same c);
   written = λ c. ap (λ (l : LinkState). Some l.written) (same c);
 }
 
 pub connected : (w : WireState) → StaysKnown w (record w { links = w.links ++ new_link ∷ [] })
-connected w = same_known w (record w { links = w.links ++ new_link ∷ [] }) refl (λ c. by_kind (is_of_dial c) _ _ _ _ refl (one_more w.links c))
+connected w = same_known w (record w { links = w.links ++ new_link ∷ [] }) refl refl (λ c. by_kind (is_of_dial c) _ _ _ _ refl (one_more w.links c))
 
 pub taken : (w : WireState) → StaysKnown w (record w { taken = w.taken ++ new_link ∷ [] })
-taken w = same_known w (record w { taken = w.taken ++ new_link ∷ [] }) refl (λ c. by_kind (is_of_dial c) _ _ _ _ (one_more w.taken (c - FIRST_DIALLED)) refl)
+taken w = same_known w (record w { taken = w.taken ++ new_link ∷ [] }) refl refl (λ c. by_kind (is_of_dial c) _ _ _ _ (one_more w.taken (c - FIRST_DIALLED)) refl)
 
 pub accept_fails : (w : WireState) → StaysKnown w (record w { accept_fails = true })
-accept_fails w = same_known w (record w { accept_fails = true }) refl (λ c. refl)
+accept_fails w = same_known w (record w { accept_fails = true }) refl refl (λ c. refl)
 
 -- another connection is as it was
 bool_is : (b : Bool) → (b ≡ true) ⊎ (b ≡ false)
 bool_is true = inl refl
 bool_is false = inr refl
 
-same_door : (b : Bool) (one two : WireState) (door : Door) → door_of one ≡ door → door_of two ≡ door → door_of (if b then one else two) ≡ door
-same_door true one two door first second = first
-same_door false one two door first second = second
+-- how many there are is the same in both
+same_count : (count : WireState → ℕ) (b : Bool) (one two : WireState) (n : ℕ) → count one ≡ n → count two ≡ n → count (if b then one else two) ≡ n
+same_count count true one two n first second = first
+same_count count false one two n first second = second
 
 dialled_other : (old : WireState) (c d : ℕ) (link : LinkState) → FIRST_DIALLED ≤ c → d ≢ c → state_at (record old { taken = set old.taken (c - FIRST_DIALLED) link }) d ≡ state_at old d
 dialled_other old c d link large other =
@@ -101,10 +102,9 @@ other_state old c d link other =
 
 pub changed : (old new : WireState) (c : ℕ) (link : LinkState) → ChangesLink old c link new → link.closed ≡ (state_at old c).closed → link.written ≡ (state_at old c).written → StaysKnown old new
 changed old new c link changes closed written =
-    let door : door_of new ≡ door_of old = ap door_of changes.whole ∙ same_door (is_of_dial c) _ _ (door_of old) refl refl in
     record {
-      accepted = ap (λ (d : Door). d.accepted) door;
-      dialled = ap (λ (d : Door). d.dialled) door;
+      accepted = ap (λ (w : WireState). w.accepted) changes.whole ∙ same_count (λ w. w.accepted) (is_of_dial c) _ _ old.accepted refl refl;
+      dialled = ap (λ (w : WireState). w.dialled) changes.whole ∙ same_count (λ w. w.dialled) (is_of_dial c) _ _ old.dialled refl refl;
       closed = λ d. elim (same_or_other d c) [
         | inl e ↦ subst (λ n. (state_at new n).closed ≡ (state_at old n).closed) (sym e) (ap (λ (l : LinkState). l.closed) changes.changed ∙ closed)
         | inr other ↦ ap (λ (w : WireState). (state_at w d).closed) changes.whole ∙ ap (λ (l : LinkState). l.closed) (other_state old c d link other)

@@ -3,7 +3,9 @@ pub mod Coming
 pub mod Accepted
 pub mod Dialled
 pub mod OneByOne
+pub mod Planned
 pub mod Writes
+pub mod Texts
 pub mod OnWire
 pub mod Turn
 pub mod Known

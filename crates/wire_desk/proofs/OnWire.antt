@@ -1,10 +1,9 @@
 -- A connection was written to: sessions and connections progress, and stay on the wire.
-use Rattle.std.proofs.Common.{◌≡◌, ◌≢◌, ◌⊎◌, inl, inr, ℕ, ◌+◌, ◌-◌, ◌<◌, ◌≤◌, List, [], ◌∷◌, length, get_or, set, Option, None, Some, false, refl, sym, ap, subst, ◌∙◌, arith}
+use Rattle.std.proofs.Common.{◌≡◌, ◌≢◌, inl, inr, ℕ, ◌<◌, ◌≤◌, List, length, get_or, Option, None, Some, false, refl, sym, ap, subst, ◌∙◌, arith}
 use Rattle.std.proofs.lemmas.List.{get_or-set_same}
 use Rattle.std.specs.Prelude.{IfSome}
-use Rattle.connection_core.specs.Connection.{ConnectionState, after_end, room}
+use Rattle.connection_core.specs.Connection.{ConnectionState, after_end}
 use Rattle.connection_core.specs.Outgoing.{written_text}
-use Rattle.connection_core.specs.declared.limits.TheConstants.{MOST_READ}
 use Rattle.gate_io.specs.Wire.{Door, Link, OthersStay}
 use Rattle.lease_core.specs.Lines.{lines_of}
 use Rattle.lease_core.specs.State.{owner_of, state_of}

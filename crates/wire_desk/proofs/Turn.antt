@@ -1,24 +1,24 @@
 -- Each connection that isn't closed was written to, and those that have ended are listed no longer.
-use Rattle.std.proofs.Common.{◌≡◌, ◌≢◌, ◌⊎◌, inl, inr, ℕ, zero, suc, ◌+◌, ◌<◌, ◌≤◌, Bool, true, false, cond, List, [], ◌∷◌, ◌++◌, length, get_or, Option, None, Some, refl, sym, ap, subst, ◌∙◌, append_assoc, arith}
+use Rattle.std.proofs.Common.{◌≡◌, ◌≢◌, inl, inr, ℕ, zero, suc, ◌+◌, ◌<◌, ◌≤◌, Bool, true, false, cond, List, [], ◌∷◌, ◌++◌, length, get_or, Option, None, Some, refl, sym, ap, subst, ◌∙◌, append_assoc, arith, length-append}
 use Rattle.std.proofs.lemmas.Bool.{lt-ltb, ltb-true}
-use Rattle.std.proofs.lemmas.List.{append-nil}
+use Rattle.std.proofs.lemmas.List.{append-nil, get_or_append_left}
 use Rattle.std.proofs.lemmas.List.Elements.{All-cons, All-head, All-tail, All-weaker, Contains-append_right, filter_passes}
 use Rattle.std.proofs.lemmas.List.Kept.{AllPairs-cons, AllPairs-filter}
-use Rattle.std.specs.List.{All, AllPairs, Contains, filter}
+use Rattle.std.proofs.lemmas.List.Quantifiers.{all_pairs_push}
+use Rattle.std.specs.List.{All, Contains, filter}
 use Rattle.std.specs.Prelude.{◌&&◌, is_none, nat_lt}
 use Rattle.gate_io.specs.Wire.{Door, Link, OthersStay}
 use Rattle.gate_io.specs.declared.dials.Dialled.{Dialled}
 use Rattle.gate_io.specs.declared.dials.Dialled.TheVariants as dial
 use Rattle.gate_io.specs.declared.wires.Accepted.{Accepted}
 use Rattle.gate_io.specs.declared.wires.Accepted.TheVariants as accept
-use Rattle.lease_desk.specs.Desk.{GoesOn}
 use Rattle.session_core.specs.declared.causes.Cause.{Cause}
 use Rattle.switchboard.specs.Board.{Board, connection_at}
 use Rattle.switchboard.specs.Going.{GoesOnTo}
 use Rattle.wire_desk.proofs.OnWire.{leases_further, stands_since}
 use Rattle.wire_desk.proofs.Progress.{same_or_other}
 use Rattle.wire_desk.specs.Lines.{IsOpenPlace, IsWired, standing, stands_at}
-use Rattle.wire_desk.specs.Places.{dialled_behind, listed_behind}
+use Rattle.wire_desk.specs.Places.{AreRising, dialled_behind, listed_behind}
 use Rattle.wire_desk.specs.Steps.{AreApart, AreOnWire, AreOpenFrom, KeepsWhatCame, Progresses, ProgressesUnread, ProgressesWriting}
 
 came_further : (old mid new : Board) (k : ℕ) → KeepsWhatCame (connection_at old k) (connection_at mid k) → KeepsWhatCame (connection_at mid k) (connection_at new k) → KeepsWhatCame (connection_at old k) (connection_at new k)
@@ -154,16 +154,46 @@ fewer_kept p (x ∷ xs) = (let more = kept_or_not (p x) x (filter p xs) xs (fewe
 pub fewer_standing : (board : Board) (places : List ℕ) → length (standing board places) ≤ length places
 fewer_standing board places = fewer_kept (stands_at board) places
 
+-- Connections are listed in the order in which they came.
+
+pub rising_first : AreRising []
+rising_first = λ i j d order within. absurd (omega arith)
+
+-- the next place is above all before it
+rising_more : (places : List ℕ) (n : ℕ) → All (λ k. k < n) places → AreRising places → AreRising (places ++ n ∷ [])
+rising_more places n below rising = all_pairs_push (λ j k. j < k) places n rising below
+
+-- of two lists, those of the one and those of the other
+all_last : (P : ℕ → Type 0) (first last : List ℕ) → All P (first ++ last) → All P last
+all_last P [] last all = all
+all_last P (x ∷ first) last all = all_last P first last (All-tail P x (first ++ last) all)
+
+all_first : (P : ℕ → Type 0) (first last : List ℕ) → All P (first ++ last) → All P first
+all_first P first last all = λ k d within. subst P (get_or_append_left first last d k within) (all k d (omega (arith, length-append first last)))
+
+pub rising_accepted : (answer : Accepted) (board : Board) (first last : List ℕ) (door : Door) (links : ℕ → Link) → IsWired board (first ++ last) door links → AreRising first
+    → AreRising (listed_behind answer (length board.connections) first)
+rising_accepted (accept.New number) board first last door links was rising =
+    rising_more first (length board.connections) (all_first (λ k. k < length board.connections) first last (within_places board (first ++ last) links was.listed)) rising
+rising_accepted accept.Nothing board first last door links was rising = rising
+rising_accepted accept.Failed board first last door links was rising = rising
+
+pub rising_dialled : (answer : Option Dialled) (board : Board) (first last : List ℕ) (door : Door) (links : ℕ → Link) → IsWired board (first ++ last) door links → AreRising last
+    → AreRising (dialled_behind answer (length board.connections) last)
+rising_dialled None board first last door links was rising = rising
+rising_dialled (Some dial.Failed) board first last door links was rising = rising
+rising_dialled (Some (dial.New number)) board first last door links was rising =
+    rising_more last (length board.connections) (all_last (λ k. k < length board.connections) first last (within_places board (first ++ last) links was.listed)) rising
+
+pub rising_standing : (board : Board) (places : List ℕ) → AreRising places → AreRising (standing board places)
+rising_standing board places rising = AllPairs-filter (λ j k. j < k) (stands_at board) places rising
+
 -- those of two lists are those of the one, and behind them those of the other
 pub standing_both : (board : Board) (first last : List ℕ) → standing board first ++ standing board last ≡ standing board (first ++ last)
 standing_both board [] last = refl
 standing_both board (x ∷ first) last = one_more (stands_at board x) x (standing board first) (standing board last) (standing board (first ++ last)) (standing_both board first last)
 
 -- the places of the one list are below the next one
-all_last : (P : ℕ → Type 0) (first last : List ℕ) → All P (first ++ last) → All P last
-all_last P [] last all = all
-all_last P (x ∷ first) last all = all_last P first last (All-tail P x (first ++ last) all)
-
 pub last_within : (old new : Board) (links : ℕ → Link) (first last : List ℕ) → length new.connections ≡ length old.connections → All (IsOpenPlace old links) (first ++ last) → All (λ k. k < length new.connections) last
 last_within old new links first last count is =
     All-weaker (IsOpenPlace old links) (λ k. k < length new.connections) (λ k place. subst (λ n. k < n) (sym count) place.within) last (all_last (IsOpenPlace old links) first last is)

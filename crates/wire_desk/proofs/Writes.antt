@@ -1,20 +1,24 @@
 -- What is written of a connection, one write after another.
 use Rattle.std.proofs.Common.{◌≡◌, ◌≢◌, ◌⊎◌, inl, inr, ℕ, ◌+◌, ◌-◌, ◌<◌, ◌≤◌, Bool, true, false, List, [], ◌∷◌, ◌++◌, length, take, drop, get_or, set, Option, None, Some, refl, sym, ap, subst, ◌∙◌, arith}
 use Rattle.std.proofs.Math.Seq.{take-add}
-use Rattle.std.proofs.lemmas.Bool.{le-leb, leb-false, leb-true}
+use Rattle.std.proofs.lemmas.Bool.{eqb-false, le-leb, leb-true}
 use Rattle.std.proofs.lemmas.List.{get_or-set_other, get_or-set_same, length-drop, length-set, length-take, set-get_or, set-set, take-take}
-use Rattle.std.specs.Prelude.{IfSome, if◌then◌else◌, nat_le}
+use Rattle.std.specs.Prelude.{IfSome, if◌then◌else◌, ◌==◌, min, nat_le}
 use Rattle.connection_core.specs.Connection.{ConnectionState}
 use Rattle.connection_core.specs.Outgoing.{Outgoing, after_writing, ends_behind, waiting_text, written_text}
-use Rattle.gate_io.specs.Wire.{Door, IsOpen, Link, LinkGoesOn, OthersStay, WireTakesFrom}
+use Rattle.connection_core.specs.declared.limits.TheConstants.{MOST_WRITTEN}
+use Rattle.gate_io.specs.Wire.{Door, IsOpen, Link, LinkGoesOn, OthersStay, WireTakesFrom, WritesAsPlanned}
 use Rattle.gate_io.specs.declared.wires.WireWrote.{WireWrote}
 use Rattle.gate_io.specs.declared.wires.WireWrote.TheVariants as wrote
-use Rattle.switchboard.specs.Board.{Board, connection_at, no_connection, with_connection}
-use Rattle.switchboard.specs.Happenings.{ConnectionChanges, Happens, prepares, writes}
+use Rattle.switchboard.specs.Board.{Board, connection_at, no_connection}
+use Rattle.switchboard.specs.Happenings.{Happens, writes}
 use Rattle.wire_desk.specs.Lines.{TookWhatIsWritten}
+use Rattle.wire_desk.specs.Planned.{IsPlannedOnce, OnceAsPlanned}
 use Rattle.wire_desk.specs.Steps.{GoesOnWriting, HasStopped, WritesSome}
 use Rattle.wire_desk.specs.declared.written.Stop.{Stop}
 use Rattle.wire_desk.specs.declared.written.Stop.TheVariants.{AllTaken, Blocked, Failed, MostWritten}
+use Rattle.wire_desk.specs.declared.written.Wrote.{Wrote}
+use Rattle.wire_desk.proofs.Planned.{came_of, once}
 
 bool_cases : (b : Bool) → (b ≡ true) ⊎ (b ≡ false)
 bool_cases true = inl refl
@@ -110,6 +114,17 @@ module _ (k : ℕ) (first second third : Board) where
       inr (subst (λ n. Happens (writes k n) first third) (omega (arith, none.0)) from)
   some_further a b (inr one) two = inr (writes_further a b one two)
 
+-- how much still waits behind some writes
+pub still_waits : (k n : ℕ) (old new : Board) → WritesSome k n old new
+    → (n ≤ length (waiting_text (connection_at old k).out.outgoing)) × (length (waiting_text (connection_at new k).out.outgoing) ≡ length (waiting_text (connection_at old k).out.outgoing) - n)
+still_waits k n old new (inl none) =
+    let same : length (waiting_text (connection_at new k).out.outgoing) ≡ length (waiting_text (connection_at old k).out.outgoing) = ap (λ (b : Board). length (waiting_text (connection_at b k).out.outgoing)) none.1 in
+    (omega (arith, none.0), omega (arith, none.0, same))
+still_waits k n old new (inr some) =
+    let out = (connection_at old k).out.outgoing in
+    let now : length (waiting_text (connection_at new k).out.outgoing) ≡ length (waiting_text (after_writing n out)) = ap (λ (o : Outgoing). length (waiting_text o)) some.outgoing in
+    (some.within, now ∙ omega (arith, length-drop out.written out.text, length-drop (out.written + n) out.text))
+
 pub goes_itself : (k : ℕ) (board : Board) → GoesOnWriting k board board
 goes_itself k board = record { sessions = refl; places = refl; connections = sym (set-get_or board.connections k no_connection) }
 
@@ -128,6 +143,7 @@ pub record GoesOnAtWire (n : ℕ) (first_door last_door : Door) (first last : �
   pub goes_on : LinkGoesOn (first n) (last n)
   pub open_still : IsOpen last_door last n
   pub others : OthersStay first last n
+  pub left : (last n).left ≡ (first n).left
   pub written : TookWhatIsWritten (last n) c
   pub door : last_door ≡ first_door
 
@@ -146,6 +162,7 @@ wire_further n first_door second_door third_door first second third c d one two 
   goes_on = link_further (first n) (second n) (third n) one.goes_on two.goes_on;
   open_still = two.open_still;
   others = λ m other. two.others m other ∙ one.others m other;
+  left = two.left ∙ one.left;
   written = two.written;
   door = two.door ∙ one.door;
 }
@@ -156,3 +173,29 @@ stopped_further AllTaken bytes c first second third stopped goes = stopped
 stopped_further MostWritten bytes c first second third stopped goes = stopped
 stopped_further Blocked bytes c first second third stopped goes = λ small. (let more = goes.write_blocks in let rose : first.write_blocks < second.write_blocks = stopped (omega arith) in omega arith)
 stopped_further Failed bytes c first second third stopped goes = λ small. (let more = goes.write_faults in let rose : first.write_faults < second.write_faults = stopped (omega arith) in omega arith)
+
+-- a piece that isn't empty has a byte
+pub some_of : (empty : Bool) (piece : List ℕ) → empty ≡ (length piece == 0) → empty ≡ false → 0 < length piece
+some_of empty piece is isnt = (let none = eqb-false (length piece) 0 (sym is ∙ isnt) in omega (arith, none))
+
+-- one write was asked for as many bytes as wait, up to the limit
+pub as_asked : (limit number : ℕ) (piece : List ℕ) (c : ConnectionState) (before after : ℕ → Link) (answer : WireWrote) → number ≡ c.number → piece ≡ take limit (waiting_text c.out.outgoing) → 0 < length piece
+    → WritesAsPlanned (before number) (length piece) answer (after number) → OnceAsPlanned (before c.number) (length (take limit (waiting_text c.out.outgoing))) (came_of answer) (after c.number)
+as_asked limit number piece c before after answer same bytes some planned =
+    subst (λ n. OnceAsPlanned (before n) (length (take limit (waiting_text c.out.outgoing))) (came_of answer) (after n)) same
+    (subst (λ (p : List ℕ). OnceAsPlanned (before number) (length p) (came_of answer) (after number)) bytes
+    (once (before number).plan (after number).plan (length piece) answer some planned))
+
+-- behind some writes the next is for what is left of the bytes that waited, up to a turn's most
+pub once_more : (k bytes : ℕ) (first now : Board) (before after : ℕ → Link) (answer : Wrote) → k < length first.connections → GoesOnWriting k first now → WritesSome k bytes first now
+    → OnceAsPlanned (before (connection_at now k).number) (length (take (MOST_WRITTEN - bytes) (waiting_text (connection_at now k).out.outgoing))) answer (after (connection_at now k).number)
+    → IfSome (before (connection_at first k).number).plan (λ plan. IsPlannedOnce plan (min (length (waiting_text (connection_at first k).out.outgoing)) MOST_WRITTEN - bytes) answer (after (connection_at first k).number).plan)
+once_more k bytes first now before after answer within goes wrote planned =
+    let waiting = length (waiting_text (connection_at first k).out.outgoing) in
+    let limit = MOST_WRITTEN - bytes in
+    let same : (connection_at now k).number ≡ (connection_at first k).number = ap (λ (x : ConnectionState). x.number) (line_here k first now within goes) in
+    let waits : length (waiting_text (connection_at now k).out.outgoing) ≡ waiting - bytes = (still_waits k bytes first now wrote).1 in
+    let len : length (take limit (waiting_text (connection_at now k).out.outgoing)) ≡ min waiting MOST_WRITTEN - bytes =
+    length-take limit (waiting_text (connection_at now k).out.outgoing) ∙ ap (min limit) waits ∙ (let e : min (MOST_WRITTEN - bytes) (waiting - bytes) ≡ min waiting MOST_WRITTEN - bytes = omega arith in e) in
+    subst (λ (n : ℕ). IfSome (before (connection_at first k).number).plan (λ plan. IsPlannedOnce plan n answer (after (connection_at first k).number).plan)) len
+    (subst (λ n. OnceAsPlanned (before n) (length (take limit (waiting_text (connection_at now k).out.outgoing))) answer (after n)) same planned)

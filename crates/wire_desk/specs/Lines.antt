@@ -1,5 +1,5 @@
 -- The connections of a board, as the wire has them.
-use Rattle.std.specs.Prelude.{◌≡◌, ◌≢◌, ℕ, ◌+◌, ◌<◌, ◌≤◌, Bool, true, false, List, length, Option, None, Some, IfSome, slice_get, slice_index_or, nat_lt, is_none, ◌&&◌}
+use Rattle.std.specs.Prelude.{◌≡◌, ℕ, ◌+◌, ◌<◌, ◌≤◌, Bool, false, List, length, None, IfSome, nat_lt, is_none, ◌&&◌}
 use Rattle.std.specs.List.{All, Contains, filter}
 use Rattle.connection_core.specs.Connection.{ConnectionState, room}
 use Rattle.connection_core.specs.Outgoing.{written_text}

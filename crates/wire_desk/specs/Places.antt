@@ -1,5 +1,6 @@
 -- Which connections aren't closed.
-use Rattle.std.specs.Prelude.{ℕ, List, [], ◌∷◌, ◌++◌, Option, None, Some}
+use Rattle.std.specs.Prelude.{ℕ, ◌<◌, List, [], ◌∷◌, ◌++◌, Option, None, Some}
+use Rattle.std.specs.List.{AllPairs}
 use Rattle.gate_io.specs.declared.dials.Dialled.{Dialled}
 use Rattle.gate_io.specs.declared.dials.Dialled.TheVariants as dial
 use Rattle.gate_io.specs.declared.wires.Accepted.{Accepted}
@@ -21,3 +22,12 @@ abbrev pub dialled_behind : Option Dialled → ℕ → List ℕ → List ℕ
 dialled_behind None place places = places
 dialled_behind (Some dial.Failed) place places = places
 dialled_behind (Some (dial.New number)) place places = places ++ place ∷ []
+
+-- each of the places is above those before it
+abbrev pub AreRising : List ℕ → Type 0
+AreRising places = AllPairs (λ j k. j < k) places
+
+-- the accepted connections are listed in the order in which they came, and so are the dialled ones
+pub record AreInOrder (w : WireDesk) : Type 0 where
+  pub accepted : AreRising w.accepted.items
+  pub dialled : AreRising w.dialled.items

@@ -22,6 +22,7 @@ use Rattle.switchboard.specs.Board.{Board, book_at, connection_at, names_at}
 use Rattle.switchboard.specs.Going.{GoesOnTo, IsWrittenAsBefore, KeepsBytes}
 use Rattle.switchboard.specs.Happenings.{Happens, accepts, gives, next_pieces, prepares, takes, writes}
 use Rattle.wire_desk.specs.Lines.{IsOnWire, IsOpenPlace}
+use Rattle.wire_desk.specs.Planned.{TurnsAsPlanned}
 use Rattle.wire_desk.specs.declared.written.Stop.{Stop}
 use Rattle.wire_desk.specs.declared.written.Stop.TheVariants.{AllTaken, Blocked, Failed, MostWritten}
 use Rattle.wire_desk.specs.declared.written.Written.{Written}
@@ -208,13 +209,15 @@ WritesOnce limit k (Stopped Failed) link_old link_new old new = HasRisen link_ol
 abbrev pub AreOnWire : Board → Door → (ℕ → Link) → Type 0
 AreOnWire board door links = (k : ℕ) → k < length board.connections → IsOnWire door links (connection_at board k)
 
--- A connection is written to.
+-- A connection is written to, as planned where the plan is told. What waits to be read stays.
 pub record Writes (written : Written) (k : ℕ) (link_old link_new : Link) (old new : Sessions) : Type 0 where
   pub prepared : Board
   pub wrote : LeaseDesk
   pub prepares : PreparesTo (connection_at old.desk.board k).session k old.desk.board prepared
   pub writes : WritesSome k written.bytes prepared wrote.board
   pub most : written.bytes ≤ MOST_WRITTEN
+  pub planned : TurnsAsPlanned link_old (length (waiting_text (connection_at prepared k).out.outgoing)) written link_new
+  pub left : link_new.left ≡ link_old.left
   pub seat : wrote.seat ≡ old.desk.seat
   pub stopped : HasStopped written.stop written.bytes (connection_at wrote.board k) link_old link_new
   pub ends : PartsIfNeeded (cause_behind written.stop (connection_at wrote.board k)) k wrote.board new.desk.board

@@ -1,7 +1,7 @@
 //! A connection is accepted.
 
 ghost use Rattle.std.specs.Prelude.{◌≡◌, ◌+◌, ◌<◌, ◌≤◌, length, IfOk, OnOk};
-ghost use Rattle.gate_io.specs.Wire.{Accepts as TheWireAccepts, OthersStay};
+ghost use Rattle.gate_io.specs.Wire.{Accepts as TheWireAccepts, AcceptsAsPlanned, OthersStay};
 ghost use Rattle.gate_io.specs.declared.wires.TheConstants.{MOST_CONNECTIONS};
 ghost use Rattle.connection_core.specs.Connection.{room};
 ghost use Rattle.connection_core.specs.declared.limits.TheConstants.{MOST_READ};
@@ -46,6 +46,7 @@ impl WireDesk {
         ensures one_comes { length desk.new.board.connections ≤ length desk.old.board.connections + 1 }
         ensures sessions_stay { length desk.new.board.sessions ≡ length desk.old.board.sessions }
         ensures exact { IfOk result (λ accepted. W.accept_gives wire.old accepted wire.new) }
+        ensures planned { IfOk result (λ accepted. AcceptsAsPlanned (W.door wire.old) (W.door wire.new) (W.link wire.old) (W.link wire.new) accepted) }
         ensures others { OthersStay (W.link wire.old) (W.link wire.new) (W.door wire.old).accepted }
         ensures rest { self.new ≡ record self.old { accepted = self.new.accepted } }
         ensures listed { IfOk result (λ accepted. self.new.accepted.items ≡ listed_behind accepted (length desk.old.board.connections) self.old.accepted.items) }

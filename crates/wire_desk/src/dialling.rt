@@ -3,7 +3,7 @@
 ghost use Rattle.std.specs.List.{All};
 ghost use Rattle.std.specs.Prelude.{◌≡◌, ◌+◌, ◌<◌, ◌≤◌, ◌↔◌, ℕ, length, IfNone, IfOk, IfSome, IsSome, IsTrue, OnErr, OnOk};
 ghost use Rattle.engine_config.specs.declared.config.TheConstants.{MOST_WAIT};
-ghost use Rattle.gate_io.specs.Wire.{Dials as TheWireDials, Door, OthersStay};
+ghost use Rattle.gate_io.specs.Wire.{Dials as TheWireDials, DialsAsPlanned, Door, OthersStay};
 ghost use Rattle.gate_io.specs.declared.wires.TheConstants.{FIRST_DIALLED};
 ghost use Rattle.lease_desk.specs.Desk.{AllAgree};
 ghost use Rattle.session_desk.specs.Steps.{IsSteady, Proceeds};
@@ -61,6 +61,7 @@ impl Dialler {
         requires dialling { IsDialling desk.old.board (W.door wire.old) self.old }
         ensures unasked { IfOk result (λ answer. IfNone answer (wire.new ≡ wire.old)) }
         ensures answer { IfOk result (λ answer. IfSome answer (λ dialled. TheWireDials (W.door wire.old) (W.door wire.new) (W.link wire.new) dialled)) }
+        ensures planned { IfOk result (λ answer. IfSome answer (λ dialled. DialsAsPlanned (W.door wire.old) (W.door wire.new) (W.link wire.old) (W.link wire.new) dialled)) }
         ensures others { OthersStay (W.link wire.old) (W.link wire.new) (FIRST_DIALLED + (W.door wire.old).dialled) }
         ensures address { IfOk result (λ answer. IfSome answer (λ dialled. IfSome (plan_at self.old s) (λ plan. W.dial_gives wire.old plan.address dialled wire.new))) }
         ensures dials { IfOk result (λ answer. DialsAs answer s at until desk.old desk.new self.old self.new) }
@@ -167,6 +168,7 @@ impl Dialler {
         requires session { s < length self.now.plans.items }
         requires dials { IsSome (plan_at self.now s) }
         ensures dials { TheWireDials (W.door wire.old) (W.door wire.new) (W.link wire.new) result }
+        ensures planned { DialsAsPlanned (W.door wire.old) (W.door wire.new) (W.link wire.old) (W.link wire.new) result }
         ensures address { IfSome (plan_at self.now s) (λ plan. W.dial_gives wire.old plan.address result wire.new) }
         ensures others { OthersStay (W.link wire.old) (W.link wire.new) (FIRST_DIALLED + (W.door wire.old).dialled) }
     {

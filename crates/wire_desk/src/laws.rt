@@ -8,6 +8,7 @@ ghost use Rattle.gate_io.specs.Wire.{Door, Link, OthersStay};
 ghost use Rattle.gate_io.specs.declared.dials.Dialled.{Dialled};
 ghost use Rattle.gate_io.specs.declared.wires.Accepted.{Accepted};
 ghost use Rattle.gate_io.specs.declared.wires.TheConstants.{FIRST_DIALLED};
+ghost use Rattle.lease_core.specs.declared.entry.Entry.{Entry};
 ghost use Rattle.lease_desk.specs.declared.desk.LeaseDesk.{LeaseDesk};
 ghost use Rattle.lease_words.specs.Views.{TableRef};
 ghost use Rattle.session_book.specs.Records.{Pending};
@@ -15,13 +16,16 @@ ghost use Rattle.session_desk.specs.Steps.{AreNoted, IsSteady, Proceeds};
 ghost use Rattle.switchboard.specs.Board.{Board, connection_at};
 ghost use Rattle.switchboard.specs.Going.{GoesOnTo, KeepsBytes};
 ghost use Rattle.switchboard.specs.Happenings.{Happening, Happens, IsNewNumber, Reaches};
+ghost use Rattle.switchboard.specs.Ready.{IsReady};
 ghost use Rattle.wire_desk.specs.Dials.{IsDialling};
 ghost use Rattle.wire_desk.specs.Lines.{IsOnWire, IsSetUp, IsWired, KnowsAsBefore, StaysKnown, standing};
-ghost use Rattle.wire_desk.specs.Places.{dialled_behind, listed_behind};
+ghost use Rattle.wire_desk.specs.Places.{AreRising, dialled_behind, listed_behind};
 ghost use Rattle.wire_desk.specs.declared.desk.WireDesk.{WireDesk};
 ghost use Rattle.wire_desk.specs.declared.dialling.Dialler.{Dialler};
-ghost use Rattle.wire_desk.specs.Steps.{AreApart, Progresses};
+ghost use Rattle.wire_desk.specs.Steps.{AreApart, Progresses, WritesInTurn, WrittenSoFar};
+ghost use Rattle.wire_desk.specs.Texts.{HaveTextsFrom};
 
+use connection_core::items_stay_queued;
 use session_desk::laws::sessions_proceed;
 use switchboard::laws::boards_go_on;
 
@@ -72,6 +76,26 @@ pub fn places_stay_apart()
     // Not more are listed where some are listed no longer.
     ensures fewer { (board : Board) (places : List ℕ) → length (standing board places) ≤ length places }
 {}
+
+/// Connections are listed in the order in which they came, the accepted ones and the dialled ones: so it
+/// stays where the next one is listed last, and where those that have ended are listed no longer.
+pub fn places_stay_in_order()
+    ensures first { AreRising [] }
+    ensures accepted { (answer : Accepted) (board : Board) (first last : List ℕ) (door : Door) (links : ℕ → Link) → IsWired board (first ++ last) door links → AreRising first
+        → AreRising (listed_behind answer (length board.connections) first) }
+    ensures dialled { (answer : Option Dialled) (board : Board) (first last : List ℕ) (door : Door) (links : ℕ → Link) → IsWired board (first ++ last) door links → AreRising last
+        → AreRising (dialled_behind answer (length board.connections) last) }
+    ensures standing { (board : Board) (places : List ℕ) → AreRising places → AreRising (standing board places) }
+{}
+
+/// What is written in a turn begins the text that the journals told before it: a connection that ends behind a
+/// write fault, or because too many items wait, is asked for no byte more.
+pub fn writes_begin_texts()
+    ensures { (before : ℕ → List Entry) (places : List ℕ) (count : ℕ) (old new : WrittenSoFar) → WritesInTurn places count old new → IsReady before old.sessions.desk.board
+        → HaveTextsFrom before old.sessions.desk.board new.sessions.desk.board }
+{
+    items_stay_queued();
+}
 
 /// What comes to a wire between two calls leaves its connections on it: so does what a script changes of a
 /// wire in memory.

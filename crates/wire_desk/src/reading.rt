@@ -3,7 +3,7 @@
 ghost use Rattle.std.specs.Prelude.{◌≡◌, ◌<◌, ◌≤◌, length, take, None, IfOk, IsNone, IsSome, OnOk};
 ghost use Rattle.connection_core.specs.Connection.{room};
 ghost use Rattle.connection_core.specs.declared.limits.TheConstants.{MOST_READ};
-ghost use Rattle.gate_io.specs.Wire.{LinkGoesOn, OthersStay, ReadHasCause, WireGivesFrom, WireGotWithin};
+ghost use Rattle.gate_io.specs.Wire.{LinkGoesOn, OthersStay, ReadHasCause, ReadsAsPlanned, WireGivesFrom, WireGotWithin};
 ghost use Rattle.lease_desk.specs.Desk.{AllAgree};
 ghost use Rattle.session_desk.specs.Steps.{IsSteady, parting};
 ghost use Rattle.switchboard.specs.Board.{connection_at};
@@ -46,6 +46,7 @@ impl WireDesk {
         ensures reads { IfOk result (λ got. Reads got self.old.routes k self.new.buffer.items at until (sessions_of desk.old self.old.unkept.items) (sessions_of desk.new self.new.unkept.items)) }
         ensures within { IfOk result (λ got. WireGotWithin MOST_READ got) }
         ensures content { IfOk result (λ got. WireGivesFrom (W.link wire.old (connection_at desk.old.board k).number).left got self.new.buffer.items (W.link wire.new (connection_at desk.old.board k).number).left) }
+        ensures planned { IfOk result (λ got. ReadsAsPlanned (W.link wire.old (connection_at desk.old.board k).number) MOST_READ got (W.link wire.new (connection_at desk.old.board k).number)) }
         ensures cause { IfOk result (λ got. ReadHasCause (W.link wire.old (connection_at desk.old.board k).number) (W.link wire.new (connection_at desk.old.board k).number) got) }
         ensures goes_on { LinkGoesOn (W.link wire.old (connection_at desk.old.board k).number) (W.link wire.new (connection_at desk.old.board k).number) }
         ensures door { W.door wire.new ≡ W.door wire.old }

@@ -1,6 +1,7 @@
 //! A connection is written to.
 
-ghost use Rattle.std.specs.Prelude.{◌≡◌, ◌+◌, ◌<◌, ◌≤◌, length, false, IfOk, IsSome, None, OnOk, true};
+ghost use Rattle.std.specs.Prelude.{◌≡◌, ◌+◌, ◌<◌, ◌≤◌, length, take, false, IfOk, IsSome, None, OnOk, true};
+ghost use Rattle.connection_core.specs.Outgoing.{waiting_text};
 ghost use Rattle.connection_core.specs.declared.limits.TheConstants.{MOST_WRITTEN};
 ghost use Rattle.gate_io.specs.Wire.{IsOpen, LinkGoesOn, OthersStay};
 ghost use Rattle.gate_io.specs.declared.wires.TheConstants.{MOST_CONNECTIONS, MOST_DIALLED};
@@ -10,7 +11,8 @@ ghost use Rattle.switchboard.specs.Board.{connection_at};
 ghost use Rattle.switchboard.specs.Going.{IsWrittenAsBefore};
 ghost use Rattle.wire_desk.specs.Dials.{IsDialling, WaitBehindEnded};
 ghost use Rattle.wire_desk.specs.Lines.{IsOpenPlace, IsSetUp, IsWired, TookWhatIsWritten, standing, stands_at};
-ghost use Rattle.wire_desk.specs.Places.{open_places};
+ghost use Rattle.wire_desk.specs.Places.{AreInOrder, open_places};
+ghost use Rattle.wire_desk.specs.Planned.{OnceAsPlanned, TurnsAsPlanned};
 ghost use Rattle.wire_desk.specs.Steps.{AreApart, AreOnWire, AreOpenFrom, GoesOnWriting, HasStopped, PartsIfNeeded, PreparesTo, Progresses, ProgressesUnread, ProgressesWriting, Writes, WritesInTurn, WritesOnce, WritesSome, cause_behind, sessions_of, written_so_far};
 
 use crate::desk::WireDesk;
@@ -95,6 +97,7 @@ impl WireDesk {
         ensures dialled { OnOk result (self.new.dialled.items ≡ standing desk.new.board self.old.dialled.items) }
         ensures wired { OnOk result (IsWired desk.new.board (open_places self.new) (W.door wire.new) (W.link wire.new)) }
         ensures apart { OnOk result (AreApart (open_places self.new)) }
+        ensures in_order { OnOk result (AreInOrder self.old → AreInOrder self.new) }
         ensures progresses { OnOk result (ProgressesUnread desk.old.board desk.new.board) }
         ensures agree { AllAgree desk.new.board desk.new.seat }
         ensures none_comes { length desk.new.board.connections ≡ length desk.old.board.connections }
@@ -200,6 +203,8 @@ fn write_all<W: Wire>(desk: &mut LeaseDesk, wire: &mut W, k: usize) -> Written
     requires written { TookWhatIsWritten (W.link wire.old (connection_at desk.old.board k).number) (connection_at desk.old.board k) }
     ensures writes { WritesSome k result.bytes desk.old.board desk.new.board }
     ensures most { result.bytes ≤ MOST_WRITTEN }
+    ensures planned { TurnsAsPlanned (W.link wire.old (connection_at desk.old.board k).number) (length (waiting_text (connection_at desk.old.board k).out.outgoing)) result (W.link wire.new (connection_at desk.old.board k).number) }
+    ensures left { (W.link wire.new (connection_at desk.old.board k).number).left ≡ (W.link wire.old (connection_at desk.old.board k).number).left }
     ensures stopped { HasStopped result.stop result.bytes (connection_at desk.new.board k) (W.link wire.old (connection_at desk.old.board k).number) (W.link wire.new (connection_at desk.old.board k).number) }
     ensures written { TookWhatIsWritten (W.link wire.new (connection_at desk.old.board k).number) (connection_at desk.new.board k) }
     ensures goes_on { LinkGoesOn (W.link wire.old (connection_at desk.old.board k).number) (W.link wire.new (connection_at desk.old.board k).number) }
@@ -231,6 +236,8 @@ fn write_once<W: Wire>(desk: &mut LeaseDesk, wire: &mut W, k: usize, limit: usiz
     requires written { TookWhatIsWritten (W.link wire.old (connection_at desk.old.board k).number) (connection_at desk.old.board k) }
     requires some { 0 < limit }
     ensures writes { WritesOnce limit k result (W.link wire.old (connection_at desk.old.board k).number) (W.link wire.new (connection_at desk.old.board k).number) desk.old.board desk.new.board }
+    ensures planned { OnceAsPlanned (W.link wire.old (connection_at desk.old.board k).number) (length (take limit (waiting_text (connection_at desk.old.board k).out.outgoing))) result (W.link wire.new (connection_at desk.old.board k).number) }
+    ensures left { (W.link wire.new (connection_at desk.old.board k).number).left ≡ (W.link wire.old (connection_at desk.old.board k).number).left }
     ensures written { TookWhatIsWritten (W.link wire.new (connection_at desk.old.board k).number) (connection_at desk.new.board k) }
     ensures goes_on { LinkGoesOn (W.link wire.old (connection_at desk.old.board k).number) (W.link wire.new (connection_at desk.old.board k).number) }
     ensures open_still { IsOpen (W.door wire.new) (W.link wire.new) (connection_at desk.old.board k).number }
@@ -290,6 +297,8 @@ fn close_if_ended<W: Wire>(desk: &LeaseDesk, wire: &mut W, k: usize)
     requires open_still { IsOpen (W.door wire.old) (W.link wire.old) (connection_at desk.now.board k).number }
     ensures closed { IsSome (connection_at desk.now.board k).cause → (W.link wire.new (connection_at desk.now.board k).number).closed ≡ true }
     ensures stands { (connection_at desk.now.board k).cause ≡ None → (W.link wire.new (connection_at desk.now.board k).number).closed ≡ false }
+    ensures left { (W.link wire.new (connection_at desk.now.board k).number).left ≡ (W.link wire.old (connection_at desk.now.board k).number).left }
+    ensures plan { (W.link wire.new (connection_at desk.now.board k).number).plan ≡ (W.link wire.old (connection_at desk.now.board k).number).plan }
     ensures written { (W.link wire.new (connection_at desk.now.board k).number).written ≡ (W.link wire.old (connection_at desk.now.board k).number).written }
     ensures goes_on { LinkGoesOn (W.link wire.old (connection_at desk.now.board k).number) (W.link wire.new (connection_at desk.now.board k).number) }
     ensures door { W.door wire.new ≡ W.door wire.old }

@@ -1,8 +1,7 @@
-use Rattle.std.proofs.Common.{ℕ, ◌≤◌, length, refl, sym, subst, ◌∙◌}
+use Rattle.std.proofs.Common.{◌≤◌, length, refl, sym, subst, ◌∙◌}
 use Rattle.session_core.specs.declared.routing.TheConstants.{MOST_SESSIONS}
 use Rattle.session_desk.specs.Steps.{AreRoutes}
 use Rattle.session_desk.specs.declared.routes.Routes.{Routes}
-use Rattle.switchboard.specs.Board.{Board, connection_at}
 use Rattle.wire_desk.proofs.Coming.{accepted_is_new, came_first, came_last, dialled_is_new, none_came}
 use Rattle.wire_desk.proofs.Progress.{further, proceeds, still_wired, wired_on}
 use Rattle.wire_desk.proofs.laws.lines_progress.Goals as goal

@@ -1,6 +1,3 @@
-use Rattle.std.proofs.Common.{◌++◌, length, Option, None, Some}
-use Rattle.gate_io.specs.declared.dials.Dialled.TheVariants as dial
-use Rattle.gate_io.specs.declared.wires.Accepted.TheVariants as accept
 use Rattle.wire_desk.proofs.Turn.{apart_accepted, apart_answered, fewer_standing}
 use Rattle.wire_desk.proofs.laws.places_stay_apart.Goals as goal
 

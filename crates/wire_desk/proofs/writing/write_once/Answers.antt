@@ -7,7 +7,7 @@ use Rattle.gate_io.specs.declared.wires.WireWrote.TheVariants as wrote
 use Rattle.switchboard.specs.Board.{connection_at}
 use Rattle.switchboard.specs.Happenings.{writes}
 use Rattle.wire_desk.specs.Lines.{TookWhatIsWritten}
-use Rattle.wire_desk.proofs.Writes.{took_none, took_on}
+use Rattle.wire_desk.proofs.Writes.{as_asked, some_of, took_none, took_on}
 use Rattle.wire_desk.proofs.writing.write_once.Goals as goal
 
 pub returns-in-Bytes-clause-written : goal.returns-in-Bytes-clause-written
@@ -24,6 +24,13 @@ returns-in-Bytes-clause-written g c =
     let now = took_on before after old.out.outgoing c.args.limit c.in-Bytes.n within takes was in
     subst (λ n. TookWhatIsWritten (g.W.Wire.link c.write.new.self n) (connection_at c.wrote.new.self c.args.k)) number
     (subst (λ (o : Outgoing). IfSome after (λ bytes. bytes ≡ written_text o)) (sym c.wrote.ensures.outgoing) now)
+
+pub returns-in-Bytes-clause-planned : goal.returns-in-Bytes-clause-planned
+returns-in-Bytes-clause-planned g c =
+    let old = connection_at c.args.desk.now.board c.args.k in
+    let number : c.number.result ≡ old.number = c.number.ensures ∙ ap (λ (x : ConnectionState). x.number) c.connection-connection.ensures in
+    let piece : c.waiting-piece.result.now ≡ take c.args.limit (waiting_text old.out.outgoing) = c.waiting-piece.ensures ∙ ap (λ (x : ConnectionState). take c.args.limit (waiting_text x.out.outgoing)) c.connection-connection.ensures in
+    as_asked c.args.limit c.number.result c.waiting-piece.result.now old (g.W.Wire.link c.args.wire.now) (g.W.Wire.link c.write.new.self) (wrote.Bytes c.in-Bytes.n) number piece (some_of c.is_empty.result c.waiting-piece.result.now c.is_empty.ensures cc) c.in-Bytes.ensures.planned
 
 pub returns-in-Bytes-clause-steady : goal.returns-in-Bytes-clause-steady
 returns-in-Bytes-clause-steady g c =
@@ -52,3 +59,17 @@ returns-in-Failed-clause-written g c =
     let was = subst (λ n. TookWhatIsWritten (g.W.Wire.link c.args.wire.now n) old) (sym number) c.requires.written in
     subst (λ n. TookWhatIsWritten (g.W.Wire.link c.write.new.self n) old) number
     (took_none wrote.Failed (g.W.Wire.link c.args.wire.now c.number.result).written (g.W.Wire.link c.write.new.self c.number.result).written c.waiting-piece.result.now (written_text old.out.outgoing) tt c.in-Failed.ensures.content was)
+
+pub returns-in-Blocked-clause-planned : goal.returns-in-Blocked-clause-planned
+returns-in-Blocked-clause-planned g c =
+    let old = connection_at c.args.desk.now.board c.args.k in
+    let number : c.number.result ≡ old.number = c.number.ensures ∙ ap (λ (x : ConnectionState). x.number) c.connection-connection.ensures in
+    let piece : c.waiting-piece.result.now ≡ take c.args.limit (waiting_text old.out.outgoing) = c.waiting-piece.ensures ∙ ap (λ (x : ConnectionState). take c.args.limit (waiting_text x.out.outgoing)) c.connection-connection.ensures in
+    as_asked c.args.limit c.number.result c.waiting-piece.result.now old (g.W.Wire.link c.args.wire.now) (g.W.Wire.link c.write.new.self) wrote.Blocked number piece (some_of c.is_empty.result c.waiting-piece.result.now c.is_empty.ensures cc) c.in-Blocked.ensures.planned
+
+pub returns-in-Failed-clause-planned : goal.returns-in-Failed-clause-planned
+returns-in-Failed-clause-planned g c =
+    let old = connection_at c.args.desk.now.board c.args.k in
+    let number : c.number.result ≡ old.number = c.number.ensures ∙ ap (λ (x : ConnectionState). x.number) c.connection-connection.ensures in
+    let piece : c.waiting-piece.result.now ≡ take c.args.limit (waiting_text old.out.outgoing) = c.waiting-piece.ensures ∙ ap (λ (x : ConnectionState). take c.args.limit (waiting_text x.out.outgoing)) c.connection-connection.ensures in
+    as_asked c.args.limit c.number.result c.waiting-piece.result.now old (g.W.Wire.link c.args.wire.now) (g.W.Wire.link c.write.new.self) wrote.Failed number piece (some_of c.is_empty.result c.waiting-piece.result.now c.is_empty.ensures cc) c.in-Failed.ensures.planned

@@ -1,4 +1,4 @@
-use Rattle.std.proofs.Common.{ap, subst, true, ◌∙◌}
+use Rattle.std.proofs.Common.{ap, subst, ◌∙◌}
 use Rattle.wire_desk.specs.Steps.{HandledSoFar, HandlesOrStops, sessions_of}
 use Rattle.wire_desk.specs.declared.desk.WireDesk.{WireDesk}
 use Rattle.wire_desk.proofs.OneByOne.{one_more}

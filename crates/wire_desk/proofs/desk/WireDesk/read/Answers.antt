@@ -1,6 +1,5 @@
-use Rattle.std.proofs.Common.{◌≡◌, ◌<◌, ◌≤◌, ℕ, List, None, length, false, sym, ap, subst, ◌∙◌, arith}
-use Rattle.connection_core.specs.Connection.{ConnectionState, room}
-use Rattle.connection_core.specs.declared.limits.TheConstants.{MOST_READ}
+use Rattle.std.proofs.Common.{◌≡◌, ◌<◌, ℕ, List, length, false, sym, ap, subst, ◌∙◌, arith}
+use Rattle.connection_core.specs.Connection.{ConnectionState}
 use Rattle.gate_io.specs.Wire.{Door, OthersStay}
 use Rattle.switchboard.specs.Board.{connection_at}
 use Rattle.wire_desk.specs.Lines.{IsWired}

@@ -1,10 +1,14 @@
-use Rattle.std.proofs.Common.{◌≡◌, false, None, Option, ℕ, refl, sym, ap, subst, ◌∙◌}
+use Rattle.std.proofs.Common.{◌≡◌, false, None, Option, ℕ, length, refl, sym, ap, subst, ◌∙◌}
+use Rattle.std.specs.Prelude.{IfSome}
 use Rattle.connection_core.specs.Connection.{ConnectionState}
+use Rattle.connection_core.specs.Outgoing.{waiting_text}
+use Rattle.gate_io.specs.Plan.{LinkPlan}
 use Rattle.gate_io.specs.Wire.{Link, LinkGoesOn, OthersStay}
 use Rattle.lease_words.specs.Views.{EngineView}
 use Rattle.session_core.specs.declared.causes.Cause.{Cause}
 use Rattle.switchboard.specs.Board.{connection_at}
 use Rattle.wire_desk.specs.Lines.{TookWhatIsWritten}
+use Rattle.wire_desk.specs.Planned.{IsPlannedTurn, TurnsAsPlanned}
 use Rattle.wire_desk.specs.Steps.{GoesOnWriting, HasStopped, cause_behind}
 use Rattle.wire_desk.proofs.OnWire.{number_stays, on_wire, progresses, took_since}
 use Rattle.wire_desk.proofs.Writes.{GoesOnAtWire, goes_further, line_here, stopped_further}
@@ -32,10 +36,12 @@ wrote : (g : given.Over) (c : goal.After-close_if_ended g) → GoesOnAtWire (con
     (g.W.Wire.link c.args.wire.now) (g.W.Wire.link c.write_all-written.new.wire) (connection_at c.write_all-written.new.desk.board c.args.k)
 wrote g c = (let all = c.write_all-written.ensures in
     subst (λ n. GoesOnAtWire n (g.W.Wire.door c.args.wire.now) (g.W.Wire.door c.write_all-written.new.wire) (g.W.Wire.link c.args.wire.now) (g.W.Wire.link c.write_all-written.new.wire) (connection_at c.write_all-written.new.desk.board c.args.k))
-    (at_prepared g c) (record { goes_on = all.goes_on; open_still = all.open_still; others = all.others; written = all.written; door = all.door }))
+    (at_prepared g c) (record { goes_on = all.goes_on; open_still = all.open_still; others = all.others; left = all.left; written = all.written; door = all.door }))
 
 record ClosesIfEnded (n : ℕ) (before after : ℕ → Link) (ended : Option Cause) : Type 0 where
   others : OthersStay before after n
+  left : (after n).left ≡ (before n).left
+  plan : (after n).plan ≡ (before n).plan
   written : (after n).written ≡ (before n).written
   stands : ended ≡ None → (after n).closed ≡ false
   goes_on : LinkGoesOn (before n) (after n)
@@ -49,13 +55,24 @@ at_end g c =
 closes : (g : given.Over) (c : goal.After-close_if_ended g) → ClosesIfEnded (connection_at c.args.desk.now.board c.args.k).number (g.W.Wire.link c.write_all-written.new.wire) (g.W.Wire.link c.close_if_ended.new.wire) (connection_at c.end_behind.new.desk.board c.args.k).cause
 closes g c = (let close = c.close_if_ended.ensures in
     subst (λ n. ClosesIfEnded n (g.W.Wire.link c.write_all-written.new.wire) (g.W.Wire.link c.close_if_ended.new.wire) (connection_at c.end_behind.new.desk.board c.args.k).cause) (at_end g c)
-    (record { others = close.others; written = close.written; stands = close.stands; goes_on = close.goes_on }))
+    (record { others = close.others; left = close.left; plan = close.plan; written = close.written; stands = close.stands; goes_on = close.goes_on }))
 
 pub returns-clause-progresses : goal.returns-clause-progresses
 returns-clause-progresses g c =
     progresses c.args.k c.args.desk.now.board c.write_all-written.new.desk.board c.end_behind.new.desk.board
     (cause_behind c.write_all-written.result.stop (connection_at c.write_all-written.new.desk.board c.args.k)) c.requires.open_place.within (changes g c) c.in_ok-end_behind.ensures.ends c.in_ok-end_behind.ensures.progresses
     (c.lines_progress.ensures.itself c.args.desk.now.board c.args.k) c.boards_go_on.ensures.further
+
+-- the plan is that behind the writes, also where the connection was closed
+planned : (g : given.Over) (c : goal.After-close_if_ended g) → TurnsAsPlanned (g.W.Wire.link c.args.wire.now (connection_at c.args.desk.now.board c.args.k).number)
+    (length (waiting_text (connection_at c.prepare.new.desk.board c.args.k).out.outgoing)) c.write_all-written.result (g.W.Wire.link c.close_if_ended.new.wire (connection_at c.args.desk.now.board c.args.k).number)
+planned g c =
+    let n = (connection_at c.args.desk.now.board c.args.k).number in
+    let link = g.W.Wire.link in
+    let waiting = length (waiting_text (connection_at c.prepare.new.desk.board c.args.k).out.outgoing) in
+    let written = c.write_all-written.result in
+    subst (λ (after : Option LinkPlan). IfSome (link c.args.wire.now n).plan (λ plan. IsPlannedTurn plan waiting written after)) (sym (closes g c).plan)
+    (subst (λ m. TurnsAsPlanned (link c.args.wire.now m) waiting written (link c.write_all-written.new.wire m)) (at_prepared g c) c.write_all-written.ensures.planned)
 
 pub returns-clause-writes : goal.returns-clause-writes
 returns-clause-writes g c =
@@ -67,6 +84,8 @@ returns-clause-writes g c =
       prepares = c.in_ok-prepare.ensures.prepares;
       writes = c.write_all-written.ensures.writes;
       most = c.write_all-written.ensures.most;
+      planned = planned g c;
+      left = (closes g c).left ∙ (wrote g c).left;
       seat = c.write_all-written.ensures.seat ∙ c.prepare.ensures.seat;
       stopped = stopped_further c.write_all-written.result.stop c.write_all-written.result.bytes (connection_at c.write_all-written.new.desk.board c.args.k) (link c.args.wire.now number) (link c.write_all-written.new.wire number)
           (link c.close_if_ended.new.wire number)

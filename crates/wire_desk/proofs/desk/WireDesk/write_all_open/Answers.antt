@@ -1,8 +1,8 @@
 use Rattle.std.proofs.Common.{◌≡◌, ◌++◌, ℕ, List, sym, ap, subst, ◌∙◌}
 use Rattle.wire_desk.specs.Lines.{IsWired, standing}
-use Rattle.wire_desk.specs.Places.{open_places}
+use Rattle.wire_desk.specs.Places.{AreRising, open_places}
 use Rattle.wire_desk.specs.Steps.{AreApart}
-use Rattle.wire_desk.proofs.Turn.{apart_behind, last_within, standing_both, wired_behind}
+use Rattle.wire_desk.proofs.Turn.{apart_behind, last_within, rising_standing, standing_both, wired_behind}
 use Rattle.wire_desk.proofs.desk.WireDesk.write_all_open.Given as given
 use Rattle.wire_desk.proofs.desk.WireDesk.write_all_open.Goals as goal
 
@@ -21,6 +21,12 @@ returns-clause-wired g c =
 
 pub returns-clause-apart : goal.returns-clause-apart
 returns-clause-apart g c = subst AreApart (sym (listed g c)) (apart_behind c.write_each.new.desk.board (open_places c.args.self.now) c.requires.apart)
+
+pub returns-clause-in_order : goal.returns-clause-in_order
+returns-clause-in_order g c = λ was. record {
+  accepted = subst AreRising (sym c.drop_ended.ensures.accepted) (rising_standing c.write_each.new.desk.board c.args.self.now.accepted.items was.accepted);
+  dialled = subst AreRising (sym c.drop_ended.ensures.dialled) (rising_standing c.write_each.new.desk.board c.args.self.now.dialled.items was.dialled);
+}
 
 pub wait_behind_ended-requires-clause-listed : goal.wait_behind_ended-requires-clause-listed
 wait_behind_ended-requires-clause-listed g c =
