@@ -1,3 +1,4 @@
 pub mod Quiet
 pub mod Coming
 pub mod Outset
+pub mod Kept

@@ -35,7 +35,7 @@ use Rattle.switchboard.specs.Board.{Board, book_at}
 use Rattle.switchboard.specs.Ready.{IsReady, entries_of}
 use Rattle.wire_desk.specs.Dials.{IsDialling, IsPlanOf, plan_at}
 use Rattle.wire_desk.specs.Lines.{IsOpenPlace, IsSetUp, IsWired}
-use Rattle.wire_desk.specs.Places.{open_places}
+use Rattle.wire_desk.specs.Places.{AreRising, open_places}
 use Rattle.wire_desk.specs.Steps.{AreApart}
 use Rattle.wire_desk.specs.declared.dialling.Dialler.{Dialler}
 
@@ -197,9 +197,9 @@ begins_dialling config board d door is sessions dials none = record {
 }
 
 -- where no connection came or was dialled, none is on the wire
-pub begins_online : AreApart [] → (config : Config) (moment : ℕ) (e : Engine) (desk : LibraryDesk) → e.sessions ≡ desk → IsConfig config → AreSessionsOf config desk.desk.board → desk.desk.board.connections ≡ [] → HasNoLines e.lines
+pub begins_online : AreApart [] → AreRising [] → (config : Config) (moment : ℕ) (e : Engine) (desk : LibraryDesk) → e.sessions ≡ desk → IsConfig config → AreSessionsOf config desk.desk.board → desk.desk.board.connections ≡ [] → HasNoLines e.lines
     → StartsDials config e.dialler → StartsFigures config moment e → (door : Door) (links : ℕ → Link) → door.accepted ≡ 0 → door.dialled ≡ 0 → IsOnline e door links
-begins_online none_apart config moment e desk same is sessions none_came lines dials figures door links none undialled =
+begins_online none_apart none_rising config moment e desk same is sessions none_came lines dials figures door links none undialled =
     let board = desk.desk.board in
     let no_connections : length board.connections ≡ 0 = ap (λ (cs : List ConnectionState). length cs) none_came in
     let no_places : open_places e.lines ≡ [] = ap (λ (ks : List ℕ). ks ++ e.lines.dialled.items) lines.accepted ∙ lines.dialled in
@@ -214,6 +214,7 @@ begins_online none_apart config moment e desk same is sessions none_came lines d
       dialling = subst (λ (d : LibraryDesk). IsDialling d.desk.board door e.dialler) (sym same) (begins_dialling config board e.dialler door is sessions dials undialled);
       accepted = figures.accepted ∙ sym none;
       apart = subst AreApart (sym no_places) none_apart;
+      in_order = record { accepted = subst AreRising (sym lines.accepted) none_rising; dialled = subst AreRising (sym lines.dialled) none_rising };
       few_accepted = (let first = ap (λ (ks : List ℕ). length ks) lines.accepted in omega arith);
       few_dialled = (let last = ap (λ (ks : List ℕ). length ks) lines.dialled in omega arith);
       came = omega arith;

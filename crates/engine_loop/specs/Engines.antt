@@ -10,7 +10,7 @@ use Rattle.library_desk.specs.Serving.{IsInOrder, IsLinked}
 use Rattle.library_desk.specs.declared.shared.Shared.{Shared}
 use Rattle.wire_desk.specs.Dials.{IsDialling}
 use Rattle.wire_desk.specs.Lines.{IsSetUp, IsWired}
-use Rattle.wire_desk.specs.Places.{open_places}
+use Rattle.wire_desk.specs.Places.{AreInOrder, open_places}
 use Rattle.wire_desk.specs.Steps.{AreApart}
 
 -- sessions, libraries and connections belong together, and are in order
@@ -27,12 +27,13 @@ pub record HasSpare (e : Engine) : Type 0 where
   pub for_sessions : length e.sessions.desk.board.sessions ≤ e.spare.sessions
   pub for_connections : e.connections + e.dialler.most ≤ e.spare.connections
 
--- The wire has the engine's connections, not more than it gave, and those that aren't closed are listed once each.
+-- The wire has the engine's connections, not more than it gave, and those that aren't closed are listed once each, those of a kind in the order in which they came.
 pub record IsOnline (e : Engine) (door : Door) (links : ℕ → Link) : Type 0 where
   pub wired : IsWired e.sessions.desk.board (open_places e.lines) door links
   pub dialling : IsDialling e.sessions.desk.board door e.dialler
   pub accepted : e.accepted ≡ door.accepted
   pub apart : AreApart (open_places e.lines)
+  pub in_order : AreInOrder e.lines
   pub few_accepted : length e.lines.accepted.items ≤ e.accepted
   pub few_dialled : length e.lines.dialled.items ≤ e.dialler.made
   pub came : length e.sessions.desk.board.connections ≤ e.accepted + e.dialler.made

@@ -1,10 +1,11 @@
 -- The steps of a turn.
-use Rattle.std.specs.Prelude.{◌≡◌, ℕ, ◌+◌, ◌<◌, ◌≤◌, ◌⊎◌, List, [], ◌∷◌, ◌++◌, length, max, min, slice_index_or, Option, None, Some, IfNone, IfSome}
+use Rattle.std.specs.Prelude.{◌≡◌, ℕ, ◌+◌, ◌<◌, ◌⊎◌, List, [], ◌∷◌, ◌++◌, length, max, min, slice_index_or, Option, None, IfNone, IfSome}
+use Rattle.connection_core.specs.declared.limits.TheConstants.{MOST_READ}
 use Rattle.engine_loop.specs.Engines.{until_of}
 use Rattle.engine_loop.specs.declared.engine.Engine.{Engine}
 use Rattle.engine_loop.specs.declared.records.Taken.{Taken}
 use Rattle.engine_loop.specs.declared.records.Turn.{Turn}
-use Rattle.gate_io.specs.Wire.{Accepts, Dials as TheWireDials, Door, Link, LinkGoesOn, OthersStay, ReadHasCause, WireGivesFrom}
+use Rattle.gate_io.specs.Wire.{Accepts, AcceptsAsPlanned, Dials as TheWireDials, DialsAsPlanned, Door, Link, LinkGoesOn, OthersStay, ReadHasCause, ReadsAsPlanned, WireGivesFrom}
 use Rattle.gate_io.specs.declared.clocks.TheConstants.{LAST_MOMENT}
 use Rattle.gate_io.specs.declared.wires.Accepted.{Accepted}
 use Rattle.gate_io.specs.declared.wires.Accepted.TheVariants.{Failed, New, Nothing}
@@ -49,6 +50,7 @@ at_wire engine door links = record { engine = engine; door = door; links = links
 pub record AsksForConnection (answer : Accepted) (old new : AtWire) : Type 0 where
   pub due : old.engine.accepted < old.engine.connections
   pub answers : Accepts old.door new.door new.links answer
+  pub planned : AcceptsAsPlanned old.door new.door old.links new.links answer
   pub others : OthersStay old.links new.links old.door.accepted
   pub accepts : AcceptsAs answer old.engine.moment old.engine.sessions.desk new.engine.sessions.desk
   pub lines : new.engine.lines ≡ record (old.engine.lines) { accepted = new.engine.lines.accepted }
@@ -63,6 +65,7 @@ AcceptsNext answer old new = AsksForConnection answer old new ⊎ ((old.engine.a
 pub record DialsSession (s : ℕ) (old new : AtWire) : Type 0 where
   pub answer : Option Dialled
   pub answers : IfSome answer (λ dialled. TheWireDials old.door new.door new.links dialled)
+  pub planned : IfSome answer (λ dialled. DialsAsPlanned old.door new.door old.links new.links dialled)
   pub unasked : IfNone answer ((new.door ≡ old.door) × (new.links ≡ old.links))
   pub others : OthersStay old.links new.links (FIRST_DIALLED + old.door.dialled)
   pub dials : DialsAs answer s old.engine.moment (until_of old.engine) old.engine.sessions.desk new.engine.sessions.desk old.engine.dialler new.engine.dialler
@@ -88,6 +91,7 @@ reading_of engine links got = record { engine = engine; links = links; got = got
 -- what the wire does as it answers a read of a connection: other ones stay as they are
 pub record AnswersRead (number : ℕ) (answer : WireGot) (buffer : List ℕ) (old new : ℕ → Link) : Type 0 where
   pub content : WireGivesFrom (old number).left answer buffer (new number).left
+  pub planned : ReadsAsPlanned (old number) MOST_READ answer (new number)
   pub cause : ReadHasCause (old number) (new number) answer
   pub goes_on : LinkGoesOn (old number) (new number)
   pub others : OthersStay old new number

@@ -15,7 +15,7 @@ use library_desk::Shared;
 use std::alloc::Global;
 use switchboard::laws::boards_go_on;
 use wire_desk::dialling_goes_on;
-use wire_desk::laws::places_stay_apart;
+use wire_desk::laws::{places_stay_apart, places_stay_in_order};
 
 impl Engine {
     /// Asks the wire for a connection, where fewer were accepted than the run has.
@@ -61,6 +61,7 @@ impl Engine {
         engines_stay();
         dialling_goes_on();
         places_stay_apart();
+        places_stay_in_order();
         boards_go_on();
         boards_stay_in_step();
         let desk = &mut self.sessions.desk;

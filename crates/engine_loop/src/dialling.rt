@@ -11,7 +11,7 @@ use crate::laws::engines_stay;
 use gate_io::{Dial, NoMemory};
 use library_desk::Shared;
 use std::alloc::Global;
-use wire_desk::laws::places_stay_apart;
+use wire_desk::laws::{places_stay_apart, places_stay_in_order};
 
 impl Engine {
     /// Each session dials that is due, in the order of their numbers.
@@ -57,6 +57,7 @@ impl Engine {
     {
         engines_stay();
         places_stay_apart();
+        places_stay_in_order();
         let until = self.until();
         let moment = self.moment;
         let desk = &mut self.sessions.desk;

@@ -85,6 +85,11 @@ impl Engine {
         ensures rest { self.new ≡ record self.old { sessions = record (self.old.sessions) { desk = record (self.old.sessions.desk) { seat = self.new.sessions.desk.seat }; ends = self.new.sessions.ends } } }
         ensures work { self.old.failed ≡ false → IsAtWork shared.now self.new }
         ensures engine { (door : Door) (links : ℕ → Link) → IsEngine shared.now self.old door links → IsEngine shared.now self.new door links }
+        // Where memory was wanting all stays as it is.
+        ensures engine_stays { self.old.failed ≡ true → self.new ≡ self.old }
+        ensures seat_stays { self.old.failed ≡ true → seat.new ≡ seat.old }
+        ensures tail_stays { self.old.failed ≡ true → tail.new ≡ tail.old }
+        ensures head_stays { self.old.failed ≡ true → head.new ≡ head.old }
     {
         engines_stay();
         if !self.failed {

@@ -1,19 +1,25 @@
 //! Laws of the definitions. Each is the contract of a function that does nothing.
 
-ghost use Rattle.std.specs.Prelude.{◌≡◌, ◌<◌, ℕ, length};
+ghost use Rattle.std.specs.Prelude.{◌≡◌, ◌<◌, ℕ, List, length};
 ghost use Rattle.engine_loop.specs.Engines.{IsAtWork, IsEngine, IsOnline};
+ghost use Rattle.engine_loop.specs.Turns.{AtWire, GivesTurn};
 ghost use Rattle.engine_loop.specs.declared.engine.Engine.{Engine};
+ghost use Rattle.engine_loop.specs.declared.records.Taken.{Taken};
+ghost use Rattle.engine_loop.specs.declared.records.Turn.{Turn};
 ghost use Rattle.gate_io.specs.Wire.{Door, Link};
+ghost use Rattle.lease_core.specs.declared.entry.Entry.{Entry};
 ghost use Rattle.lease_desk.specs.Desk.{GoesOn};
 ghost use Rattle.library_desk.specs.declared.shared.Shared.{Shared};
 ghost use Rattle.session_desk.specs.Steps.{AreNoted};
 ghost use Rattle.switchboard.specs.Board.{connection_at};
 ghost use Rattle.switchboard.specs.Going.{GoesOnTo, KeepsBytes};
+ghost use Rattle.switchboard.specs.Ready.{IsReady};
 ghost use Rattle.wire_desk.specs.Lines.{IsSetUp, KnowsAsBefore};
+ghost use Rattle.wire_desk.specs.Texts.{HaveTextsFrom};
 
 use library_desk::laws::cursors_stay;
 use wire_desk::dialling_goes_on;
-use wire_desk::laws::{lines_progress, wires_stay_known};
+use wire_desk::laws::{lines_progress, wires_stay_known, writes_begin_texts};
 
 /// An engine stays at work, and its connections on the wire.
 pub fn engines_stay()
@@ -34,4 +40,13 @@ pub fn engines_stay()
     lines_progress();
     dialling_goes_on();
     wires_stay_known();
+}
+
+/// What the second half of a turn writes begins the text that the journals told before it: it writes of no
+/// entry that it makes itself.
+pub fn gives_begin_texts()
+    ensures { (before : ℕ → List Entry) (old new : AtWire) (taken : Taken) (turn : Turn) → GivesTurn old new taken turn → IsReady before old.engine.sessions.desk.board
+        → HaveTextsFrom before old.engine.sessions.desk.board new.engine.sessions.desk.board }
+{
+    writes_begin_texts();
 }

@@ -7,6 +7,7 @@ mod dialling;
 mod engine;
 mod finishing;
 mod giving;
+mod keeping;
 pub mod laws;
 mod noting;
 mod publishing;

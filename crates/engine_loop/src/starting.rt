@@ -24,7 +24,7 @@ use session_core::Names;
 use session_desk::Routes;
 use std::alloc::Global;
 use switchboard::laws::boards_stay_ready;
-use wire_desk::laws::places_stay_apart;
+use wire_desk::laws::{places_stay_apart, places_stay_in_order};
 use wire_desk::{Dialler, WireDesk};
 
 /// An engine that made no turn, what it shares with its libraries, and their ends, in the order of their
@@ -51,6 +51,7 @@ pub fn start(
 {
     boards_stay_ready();
     places_stay_apart();
+    places_stay_in_order();
     let (sessions, shared, ends) = engine_start::start(alloc, &config, moment)?;
     let unkept = unkept(alloc, config.names.as_slice().len())?;
     let engine = outset(alloc, config, moment, sessions, unkept)?;
@@ -88,6 +89,7 @@ pub fn start_from(
 {
     boards_stay_ready();
     places_stay_apart();
+    places_stay_in_order();
     let (sessions, shared, ends, unkept) = engine_start::start_from(
         alloc, &config, moment, records,
     )?;

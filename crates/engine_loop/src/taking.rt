@@ -1,9 +1,10 @@
 //! The first half of a turn.
 
-ghost use Rattle.std.specs.Prelude.{◌≡◌, IfOk, IsErr, OnErr, OnOk, true, false};
+ghost use Rattle.std.specs.Prelude.{◌≡◌, [], ◌∷◌, IfOk, IsErr, OnErr, OnOk, true, false};
 ghost use Rattle.engine_end.specs.Room.{HasRoomFor};
 ghost use Rattle.engine_loop.specs.Engines.{IsAtWork, IsEngine, IsOnline};
 ghost use Rattle.engine_loop.specs.Turns.{TakesTurn, at_wire, with_moment};
+ghost use Rattle.gate_io.specs.Clock.{TakesReadings};
 ghost use Rattle.gate_io.specs.Counts.{HasRisen};
 ghost use Rattle.lease_desk.specs.Desk.{AllAgree};
 
@@ -30,6 +31,9 @@ impl Engine {
         requires engine { IsEngine shared.now self.old (W.door wire.old) (W.link wire.old) }
         ensures takes { IfOk result (λ taken. TakesTurn (C.last clock.new) (at_wire self.old (W.door wire.old) (W.link wire.old)) (at_wire self.new (W.door wire.new) (W.link wire.new)) taken) }
         ensures clock { OnOk result (HasRisen (C.readings clock.old) (C.readings clock.new)) }
+        // The clock was read once.
+        ensures reading { OnOk result (C.now_gives clock.old (C.last clock.new) clock.new) }
+        ensures readings { OnOk result (TakesReadings C.has_read clock.old (C.last clock.new ∷ []) clock.new) }
         ensures engine { IsEngine shared.now self.new (W.door wire.new) (W.link wire.new) }
         ensures goes_on { OnOk result (self.new.failed ≡ false) }
         ensures failed { OnErr result (self.new.failed ≡ true) }

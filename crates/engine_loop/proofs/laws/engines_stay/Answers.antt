@@ -6,12 +6,11 @@ use Rattle.engine_loop.specs.declared.engine.Engine.{Engine}
 use Rattle.session_desk.specs.Steps.{AreNoted}
 use Rattle.gate_io.specs.declared.clocks.TheConstants.{LAST_MOMENT}
 use Rattle.gate_io.specs.declared.wires.TheConstants.{MOST_CONNECTIONS}
-use Rattle.lease_words.specs.Views.{TableRef}
 use Rattle.library_desk.specs.Serving.{AreCursors, IsLinked}
 use Rattle.library_desk.specs.declared.desk.LibraryDesk.{LibraryDesk}
 use Rattle.wire_desk.specs.Dials.{IsDialling}
 use Rattle.wire_desk.specs.Lines.{IsWired}
-use Rattle.wire_desk.specs.Places.{open_places}
+use Rattle.wire_desk.specs.Places.{AreRising, open_places}
 use Rattle.wire_desk.specs.Steps.{AreApart}
 use Rattle.wire_desk.specs.declared.dialling.Dialler.{Dialler}
 use Rattle.engine_loop.proofs.laws.engines_stay.Goals as goal
@@ -52,6 +51,7 @@ returns-clause-still c = λ old new door links goes count bytes first last diall
       dialling = subst (λ (d : Dialler). IsDialling new.sessions.desk.board door d) (sym dialler) (c.dialling_goes_on.ensures.boards old.sessions.desk.board new.sessions.desk.board door door old.dialler goes refl was.dialling);
       accepted = accepted ∙ was.accepted;
       apart = subst AreApart (sym places) was.apart;
+      in_order = record { accepted = subst AreRising (sym first) was.in_order.accepted; dialled = subst AreRising (sym last) was.in_order.dialled };
       few_accepted = (let few = was.few_accepted in let count = ap (λ (ks : List ℕ). length ks) first in omega arith);
       few_dialled = (let few = was.few_dialled in let count = ap (λ (ks : List ℕ). length ks) last in let made = ap (λ (d : Dialler). d.made) dialler in omega arith);
       came = (let came = was.came in let made = ap (λ (d : Dialler). d.made) dialler in omega arith);
@@ -87,6 +87,7 @@ returns-clause-noted_online c = λ old new door links rest was. subst (λ (e : E
   dialling = was.dialling;
   accepted = was.accepted;
   apart = was.apart;
+  in_order = record { accepted = was.in_order.accepted; dialled = was.in_order.dialled };
   few_accepted = was.few_accepted;
   few_dialled = was.few_dialled;
   came = was.came;
@@ -103,6 +104,7 @@ returns-clause-known c = λ shared e before after old new knows was. record {
     dialling = c.wires_stay_known.ensures.dialling e.sessions.desk.board e.dialler before after old new knows online.dialling;
     accepted = online.accepted ∙ sym knows.accepted;
     apart = online.apart;
+    in_order = online.in_order;
     few_accepted = online.few_accepted;
     few_dialled = online.few_dialled;
     came = online.came;

@@ -1,4 +1,4 @@
-use Rattle.std.proofs.Common.{◌≡◌, List, length, subst, sym, ◌∙◌, ap}
+use Rattle.std.proofs.Common.{List, length, ◌∙◌, ap}
 use Rattle.std.specs.Prelude.{replicate}
 use Rattle.session_core.specs.declared.names.Names.{Names}
 use Rattle.session_desk.specs.Steps.{nothing_noted}
@@ -23,5 +23,5 @@ returns-clause-online c =
     let desk = c.in_ok-sessions.sessions in
     let begun = c.in_ok-sessions.ensures in
     let made = c.in_ok-engine.ensures in
-    begins_online c.places_stay_apart.ensures.first config c.args.moment c.in_ok-engine.engine desk made.sessions c.requires.config (started config desk.desk.board begun.sessions) begun.sessions.first.connections made.lines
+    begins_online c.places_stay_apart.ensures.first c.places_stay_in_order.ensures.first config c.args.moment c.in_ok-engine.engine desk made.sessions c.requires.config (started config desk.desk.board begun.sessions) begun.sessions.first.connections made.lines
     made.dials made.figures

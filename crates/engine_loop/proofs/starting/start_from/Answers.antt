@@ -24,5 +24,5 @@ returns-clause-online c =
     let desk = c.in_ok-sessions.sessions in
     let begun = c.in_ok-sessions.ensures in
     let made = c.in_ok-engine.ensures in
-    begins_online c.places_stay_apart.ensures.first config c.args.moment c.in_ok-engine.engine desk made.sessions c.requires.config
+    begins_online c.places_stay_apart.ensures.first c.places_stay_in_order.ensures.first config c.args.moment c.in_ok-engine.engine desk made.sessions c.requires.config
     (restarted config (hold_until config c.args.moment) c.args.records.items desk.desk.board begun.sessions) begun.sessions.first.connections made.lines made.dials made.figures

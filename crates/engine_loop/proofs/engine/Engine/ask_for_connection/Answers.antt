@@ -1,9 +1,9 @@
-use Rattle.std.proofs.Common.{◌++◌, ◌+◌, ◌≤◌, ℕ, List, length, sym, ap, subst, ◌∙◌, arith}
+use Rattle.std.proofs.Common.{◌++◌, ℕ, List, length, sym, ap, subst, ◌∙◌, arith}
 use Rattle.engine_loop.proofs.Coming.{accepted_counts, dialled_stays, few_listed, goes_by}
 use Rattle.engine_loop.proofs.engine.Engine.ask_for_connection.Goals as goal
 use Rattle.engine_loop.specs.Turns.{accepted_after}
 use Rattle.gate_io.specs.declared.wires.Accepted.{Accepted}
-use Rattle.wire_desk.specs.Places.{listed_behind}
+use Rattle.wire_desk.specs.Places.{AreRising, listed_behind}
 use Rattle.wire_desk.specs.Steps.{AreApart}
 use Rattle.wire_desk.specs.declared.desk.WireDesk.{WireDesk}
 
@@ -30,6 +30,10 @@ returns-in-New-clause-online g c =
       dialling = c.dialling_goes_on.ensures.boards board c.accept.new.desk.board before after old.dialler goes (dialled_stays answer before after links told.answer) was.dialling;
       accepted = sym one ∙ ap (accepted_after answer) was.accepted ∙ sym (accepted_counts answer before after links told.answer);
       apart = subst AreApart (sym listed) apart;
+      in_order = record {
+        accepted = subst AreRising (sym told.listed) (c.places_stay_in_order.ensures.accepted answer board first last before (g.W.Wire.link c.args.wire.now) was.wired was.in_order.accepted);
+        dialled = subst AreRising (sym (ap (λ (w : WireDesk). w.dialled.items) c.accept.ensures.rest)) was.in_order.dialled;
+      };
       few_accepted = (let few = few_listed answer place old.accepted first was.few_accepted in let count = ap (λ (xs : List ℕ). length xs) told.listed in omega arith);
       few_dialled = (let few = was.few_dialled in let count = ap (λ (w : WireDesk). length w.dialled.items) c.accept.ensures.rest in omega arith);
       came = (let came = was.came in let count = c.accept.ensures.one_comes in omega arith);

@@ -1,6 +1,7 @@
-use Rattle.std.proofs.Common.{◌++◌, ◌≤◌, ℕ, List, length, refl, sym, ap, subst, ◌∙◌, arith}
+use Rattle.std.proofs.Common.{◌++◌, ℕ, List, length, refl, sym, ap, subst, ◌∙◌, arith}
 use Rattle.engine_loop.proofs.Coming.{accepted_stays, few_came, few_dialled, most_stays}
 use Rattle.engine_loop.proofs.engine.Engine.dial_session.Goals as goal
+use Rattle.wire_desk.specs.Places.{AreRising}
 use Rattle.wire_desk.specs.Steps.{AreApart}
 use Rattle.wire_desk.specs.declared.desk.WireDesk.{WireDesk}
 
@@ -27,6 +28,10 @@ returns-clause-online g c =
       dialling = told.dialling;
       accepted = was.accepted ∙ sym (accepted_stays g.W.Wire.door answer c.args.wire.now c.dial.new.wire (g.W.Wire.link c.dial.new.wire) told.unasked told.answer);
       apart = subst AreApart (sym (listed ∙ ap (λ (xs : List ℕ). xs ++ Rattle.wire_desk.specs.Places.dialled_behind answer (length board.connections) last) same)) apart;
+      in_order = record {
+        accepted = subst AreRising (sym same) was.in_order.accepted;
+        dialled = subst AreRising (sym told.listed) (c.places_stay_in_order.ensures.dialled answer board first last (g.W.Wire.door c.args.wire.now) (g.W.Wire.link c.args.wire.now) was.wired was.in_order.dialled);
+      };
       few_accepted = (let few = was.few_accepted in let count = ap (λ (xs : List ℕ). length xs) same in omega arith);
       few_dialled = (let few = few_dialled answer c.args.s old.moment c.until-until.result (length board.connections) old.sessions.desk c.dial.new.desk old.dialler c.dial.new.self last told.dials was.few_dialled in
           let count = ap (λ (xs : List ℕ). length xs) told.listed in omega arith);

@@ -1,5 +1,4 @@
 use Rattle.std.proofs.Common.{refl, sym, ◌∙◌}
-use Rattle.library_desk.specs.Happening.{RunsFor}
 use Rattle.session_desk.specs.Steps.{IsSteady}
 use Rattle.engine_loop.proofs.Quiet.{Laws, still_run}
 use Rattle.engine_loop.proofs.engine.Engine.serve_library.Goals as goal
