@@ -7,6 +7,7 @@ use Rattle.std.specs.List.{All}
 use Rattle.std.specs.Prelude.{slice_get, slice_set}
 use Rattle.catchup_pump.specs.Pump.{messages_from}
 use Rattle.catchup_pump.specs.declared.cursor.Cursor.{Cursor}
+use Rattle.engine_end.specs.Meeting.{RingsMeet}
 use Rattle.lease_core.specs.Laws.{LinesTellLease, PushedIsLast}
 use Rattle.lease_core.specs.Lines.{granted_line, lines_of, no_line}
 use Rattle.lease_core.specs.State.{lease_of, owner_in, owner_of, state_of}
@@ -14,6 +15,7 @@ use Rattle.lease_core.specs.Steps.{entry_with, reply_to}
 use Rattle.lease_core.specs.declared.entry.Why.{Why}
 use Rattle.lease_core.specs.declared.entry.Why.TheVariants.{UnknownSession}
 use Rattle.lease_core.specs.declared.lease.Line.{Line}
+use Rattle.lease_core.specs.declared.messages.Command.{Command}
 use Rattle.lease_core.specs.declared.messages.Notice.{Notice}
 use Rattle.lease_core.specs.declared.messages.Notice.TheVariants.{Granted, Message, Refused}
 use Rattle.lease_core.specs.declared.messages.Reply.{Reply}
@@ -32,6 +34,7 @@ use Rattle.library_laws.proofs.Ends.{ends_change}
 use Rattle.library_laws.proofs.Going.{Keeps, Laws, by_going, keeps_further, keeps_itself, one_keeps, taking_back_keeps}
 use Rattle.library_laws.proofs.Orders.{aside_next, aside_order, is_of_other, is_of_own, messages_aside, messages_logged, messages_order, next_append, order_append, own_next, own_order}
 use Rattle.library_laws.proofs.Steps.{each_in_turn, small_in_turn}
+use Rattle.ring_links.specs.Ends.{HeadView, TailView}
 use Rattle.session_book.specs.Book.{Book}
 use Rattle.switchboard.specs.Board.{Board, book_at}
 use Rattle.switchboard.specs.Happenings.{requests}
@@ -350,6 +353,20 @@ looked_at library old new b a from_one found pushed ends rest was =
       fed = ends_change (λ other e. IsFed old.desk.board old.cursors.items other e.tail.pushed) old.ends.items new.ends.items library b a from_one found ends
           (λ other e different other_from_one has. was.fed other e other_from_one has)
           (subst (λ ns. IsFed old.desk.board old.cursors.items library ns) (sym pushed) (was.fed library b from_one found));
+    })
+
+-- the engine and a library meet
+pub met : (library : ℕ) (old new : LibraryDesk) (tail_old tail_new : TailView Command) (head_old head_new : HeadView Notice) → 1 ≤ library → RingsMeet library old new tail_old tail_new head_old head_new
+    → new ≡ record old { desk = record (old.desk) { seat = new.desk.seat }; ends = new.ends } → AreFed old → AreFed new
+met library old new tail_old tail_new head_old head_new from_one rings rest was =
+    let b = rings.before in
+    let a = rings.after in
+    let pushed : a.tail.pushed ≡ b.tail.pushed = ap (λ t. t.pushed) rings.notices.tail in
+    subst AreFed (sym rest) (record {
+      cursors = was.cursors;
+      fed = ends_change (λ other e. IsFed old.desk.board old.cursors.items other e.tail.pushed) old.ends.items new.ends.items library b a from_one rings.found rings.ends
+          (λ other e different other_from_one has. was.fed other e other_from_one has)
+          (subst (λ ns. IsFed old.desk.board old.cursors.items library ns) (sym pushed) (was.fed library b from_one rings.found));
     })
 
 -- a reply was given, and its notice is pushed

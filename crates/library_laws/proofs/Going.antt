@@ -56,7 +56,7 @@ get_append [] ys i x at = absurd cc
 get_append (y ∷ xs) ys zero x at = at
 get_append (y ∷ xs) ys (suc i) x at = get_append xs ys i x at
 
-long_with_last : (f : Line → Line) (lines : List Line) → length (with_last f lines) ≡ length lines
+pub long_with_last : (f : Line → Line) (lines : List Line) → length (with_last f lines) ≡ length lines
 long_with_last f [] = refl
 long_with_last f (l ∷ []) = refl
 long_with_last f (l ∷ k ∷ ks) = ap (λ n. suc n) (long_with_last f (k ∷ ks))
@@ -94,7 +94,7 @@ pub record Laws : Type 0 where
   pub desk : (s other : ℕ) (place : Option ℕ) (old new : Board) → other ≢ s → DeskChanges s place old new → book_at new other ≡ book_at old other
   pub session : (s other : ℕ) (old new : Board) → other ≢ s → new ≡ with_session s (session_at new s) old → book_at new other ≡ book_at old other
 
-last_with_last : (f : Line → Line) (d : Line) (lines : List Line) → 0 < length lines → last_or d (with_last f lines) ≡ f (last_or d lines)
+pub last_with_last : (f : Line → Line) (d : Line) (lines : List Line) → 0 < length lines → last_or d (with_last f lines) ≡ f (last_or d lines)
 last_with_last f d [] some = absurd (omega arith)
 last_with_last f d (l ∷ []) some = refl
 last_with_last f d (l ∷ k ∷ ks) some = last_with_last f l (k ∷ ks) (omega arith)

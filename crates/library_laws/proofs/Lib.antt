@@ -8,3 +8,8 @@ mod Served
 mod Going
 mod Fed
 mod Turns
+mod Sent
+mod Lanes
+mod Taken
+mod First
+mod Settled

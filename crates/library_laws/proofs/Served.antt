@@ -5,10 +5,12 @@ use Rattle.std.proofs.lemmas.List.{append-nil, append_assoc, length-set}
 use Rattle.std.proofs.lemmas.Option.{same_Some, slice_get_within}
 use Rattle.std.specs.List.{flat_map}
 use Rattle.std.specs.Prelude.{slice_get, slice_set}
+use Rattle.engine_end.specs.Meeting.{RingsMeet}
 use Rattle.lease_core.specs.State.{state_of}
 use Rattle.lease_core.specs.Steps.{entry_with, reply_to}
 use Rattle.lease_core.specs.declared.entry.Entry.{Entry}
 use Rattle.lease_core.specs.declared.entry.Why.TheVariants.{UnknownSession}
+use Rattle.lease_core.specs.declared.messages.Command.{Command}
 use Rattle.lease_core.specs.declared.messages.Command.TheVariants.{Done, Request}
 use Rattle.lease_core.specs.declared.messages.Notice.{Notice}
 use Rattle.lease_core.specs.declared.messages.Notice.TheVariants.{Refused}
@@ -26,6 +28,7 @@ use Rattle.library_laws.specs.Replies.{AllAreAnswered, AreAnswered, Ask, IsAnswe
 use Rattle.library_laws.proofs.Ends.{ends_change, get_set_other, get_set_same}
 use Rattle.library_laws.proofs.Steps.{each_in_turn}
 use Rattle.library_laws.proofs.Told.{Answers, SameNotices, messages_more, one_more, refuses, replies, same_notices, stray_others, stray_own, told_others, told_own}
+use Rattle.ring_links.specs.Ends.{HeadView, TailView}
 use Rattle.session_book.specs.Book.{Book}
 use Rattle.switchboard.specs.Board.{Board, book_at, session_at, with_session}
 use Rattle.switchboard.specs.Happenings.{Happening, Happens, reserves, times_out}
@@ -208,6 +211,18 @@ module _ (others_stay : (s other : ℕ) (old new : Board) → other ≢ s → ne
     answered_turn library old new (Ended finished) from_one looks was = looked_at library old new looks.before looks.after from_one looks.found looks.looks.pushed looks.ends looks.rest
         (ap (flat_map asked_by) looks.finds.1 ∙ one_more asked_by looks.before.head.popped (Done finished) ∙ append-nil (flat_map asked_by looks.before.head.popped)) was
     answered_turn library old new (Answered nr) from_one is was = answered_request library nr old new from_one is was
+
+    -- the engine and a library meet
+    pub met : (library : ℕ) (old new : LibraryDesk) (tail_old tail_new : TailView Command) (head_old head_new : HeadView Notice) → 1 ≤ library → RingsMeet library old new tail_old tail_new head_old head_new
+        → new ≡ record old { desk = record (old.desk) { seat = new.desk.seat }; ends = new.ends } → AreAnswered before old → AreAnswered before new
+    met library old new tail_old tail_new head_old head_new from_one rings rest was =
+        let b = rings.before in
+        let a = rings.after in
+        let pushed : a.tail.pushed ≡ b.tail.pushed = ap (λ t. t.pushed) rings.notices.tail in
+        let popped : a.head.popped ≡ b.head.popped = ap (λ h. h.popped) rings.commands.head in
+        let quiet = quiet_ends old.desk.board old.strays.items library b a (same_notices b.tail.pushed a.tail.pushed pushed) (ap (flat_map asked_by) popped) (was library b from_one rings.found) in
+        subst (λ (d : LibraryDesk). AllAreAnswered before d.desk.board d.strays.items new.ends.items) (sym rest)
+        (ends_change (IsAnswered before old.desk.board old.strays.items) old.ends.items new.ends.items library b a from_one rings.found rings.ends (λ other e different other_from_one has. was other e other_from_one has) quiet)
 
     module _ (kept : (happening : Happening) (old new : Board) → is_unasked happening ≡ true → Happens happening old new → KeepsReplies old new) where
       taken_back : (s at until : ℕ) (old new : LeaseDesk) → TakesBack s at until old new → RepliesStay old new

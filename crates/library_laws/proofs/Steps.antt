@@ -1,9 +1,10 @@
 -- What a gathering keeps, and all that happens besides but for what the leases do, each step of a turn keeps in which no library is served.
-use Rattle.std.proofs.Common.{◌≡◌, inl, inr, ℕ, zero, suc, ◌<◌, ◌≤◌, Bool, true, false, List, [], ◌∷◌, ◌++◌, Option, None, Some, Result, Ok, Err, refl, sym, ap, subst, ◌∙◌, arith}
+use Rattle.std.proofs.Common.{◌≡◌, inl, inr, ℕ, zero, suc, ◌<◌, ◌≤◌, Bool, true, false, List, [], ◌∷◌, ◌++◌, length, Option, None, Some, Result, Ok, Err, refl, sym, ap, subst, ◌∙◌, arith}
 use Rattle.std.proofs.lemmas.List.Elements.{All-append, All-cons, All-nil}
 use Rattle.std.specs.Prelude.{if◌then◌else◌, nat_lt, slice_index_or}
 use Rattle.std.specs.List.{All}
 use Rattle.std.specs.Result.{result_ok}
+use Rattle.engine_end.specs.Finishing.{GathersAll}
 use Rattle.fix_fields.specs.Reading.{fields_of}
 use Rattle.fix_frame.specs.Cut.{CutPiece, garbled, good}
 use Rattle.gate_io.specs.declared.dials.Dialled.{Dialled}
@@ -15,6 +16,8 @@ use Rattle.gate_io.specs.declared.wires.WireGot.TheVariants as got
 use Rattle.lease_core.specs.State.{state_of}
 use Rattle.lease_desk.specs.Desk.{Gathers, InTurn, is_of_leases}
 use Rattle.lease_desk.specs.declared.desk.LeaseDesk.{LeaseDesk}
+use Rattle.lease_words.specs.Sees.{after_publish}
+use Rattle.lease_words.specs.Views.{engine_at, with_engine_at}
 use Rattle.session_book.specs.Records.{Pending}
 use Rattle.session_core.specs.declared.causes.Cause.{Cause}
 use Rattle.session_core.specs.declared.causes.Cause.TheVariants.{End, ReadFault, Silent}
@@ -86,12 +89,13 @@ stays old new same = record { happenings = []; all = none_aside; reaches = same 
 alone : (happening : Happening) (old new : Board) → IsAside happening → Happens happening old new → Runs old new
 alone happening old new aside is = record { happenings = happening ∷ []; all = one_aside happening aside; reaches = (new, (is, refl)) }
 
--- A relation of desks, one after another, that gatherings keep, and what the leases don't do.
+-- A relation of desks, one after another, that gatherings keep, and what the leases don't do, and that a count is published.
 pub record IsKept (R : LeaseDesk → LeaseDesk → Type 0) : Type 0 where
   pub itself : (desk : LeaseDesk) → R desk desk
   pub further : (first second third : LeaseDesk) → R first second → R second third → R first third
   pub gathers : (s at until : ℕ) (old new : LeaseDesk) → Gathers s at until old new → R old new
   pub aside : (happenings : List Happening) (old new : LeaseDesk) → All (λ happening. is_of_leases happening ≡ false) happenings → Reaches happenings old.board new.board → new.seat ≡ old.seat → R old new
+  pub publishes : (s count : ℕ) (old new : LeaseDesk) → new.board ≡ old.board → new.seat ≡ with_engine_at old.seat s (after_publish (engine_at old.seat s) count) → R old new
   pub joins : (first second : List Happening) (old between new : Board) → Reaches first old between → Reaches second between new → Reaches (first ++ second) old new
 
 module _ (R : LeaseDesk → LeaseDesk → Type 0) (g : IsKept R) where
@@ -228,3 +232,7 @@ module _ (R : LeaseDesk → LeaseDesk → Type 0) (g : IsKept R) where
   written_in_turn places count old new steps =
       each_in_turn (λ i. WritesAt (slice_index_or places i 0)) (λ a b. KeptOf a.sessions b.sessions) (λ so_far. g.itself so_far.sessions.desk)
       (λ a b c. g.further a.sessions.desk b.sessions.desk c.sessions.desk) (λ i a b. written_at (slice_index_or places i 0) a b) count old new steps
+
+  -- each session is gathered, one after another
+  pub gathered_in_turn : (at until : ℕ) (old new : LeaseDesk) → GathersAll at until old new → R old new
+  gathered_in_turn at until old new gathers = each_in_turn (λ s. Gathers s at until) R g.itself g.further (λ s. g.gathers s at until) (length old.board.sessions) old new gathers

@@ -1,6 +1,7 @@
--- What holds of the desk of libraries before a step of a turn holds behind it, where it stays as boards go on and as libraries are served.
-use Rattle.std.proofs.Common.{◌≡◌, inl, inr, ℕ, ◌+◌, ◌≤◌, List, [], length, sym, ap, subst, arith}
+-- What holds of the desk of libraries before a step of a turn holds behind it, where it stays as the desk of leases goes on and as libraries are served.
+use Rattle.std.proofs.Common.{◌≡◌, inl, inr, ℕ, ◌+◌, ◌≤◌, List, [], length, refl, ap, subst, sym, arith}
 use Rattle.std.specs.Prelude.{slice_index_or}
+use Rattle.engine_end.specs.Finishing.{GathersAll}
 use Rattle.engine_loop.specs.Engines.{until_of}
 use Rattle.engine_loop.specs.Turns.{AcceptsNext, AtWire, DialsSession, GivesTurn, HandsOut, MakesTurn, NotesSession, PublishesSession, Reading, ReadsIfStands, ServesOne, Serving, TakesTurn, TicksSession, WritesAll, at_wire, reading_of, serving_of, with_moment}
 use Rattle.engine_loop.specs.declared.engine.Engine.{Engine}
@@ -14,12 +15,12 @@ use Rattle.lease_desk.specs.declared.desk.LeaseDesk.{LeaseDesk}
 use Rattle.library_desk.specs.Serving.{Serves}
 use Rattle.library_desk.specs.declared.desk.LibraryDesk.{LibraryDesk}
 use Rattle.library_desk.specs.declared.serving.LibTurn.{LibTurn}
-use Rattle.library_laws.proofs.Steps.{IsKept, accepted_as, dialled_as, each_in_turn, read, ticked, written_in_turn}
-use Rattle.switchboard.specs.Board.{Board}
+use Rattle.library_laws.proofs.Steps.{IsKept, accepted_as, dialled_as, each_in_turn, gathered_in_turn, read, ticked, written_in_turn}
+use Rattle.switchboard.specs.Board.{book_at}
 use Rattle.wire_desk.specs.Places.{open_places}
 use Rattle.wire_desk.specs.Steps.{written_so_far}
 
-module _ (Holds : LibraryDesk → Type 0) (R : Board → Board → Type 0) (goes_on : (old new : LibraryDesk) → R old.desk.board new.desk.board → new ≡ record old { desk = new.desk } → Holds old → Holds new) where
+module _ (Holds : LibraryDesk → Type 0) (R : LeaseDesk → LeaseDesk → Type 0) (goes_on : (old new : LibraryDesk) → R old.desk new.desk → new ≡ record old { desk = new.desk } → Holds old → Holds new) where
   -- what was so of the one engine is so of the other
   abbrev Stays : Engine → Engine → Type 0
   Stays old new = Holds old.sessions → Holds new.sessions
@@ -37,42 +38,43 @@ module _ (Holds : LibraryDesk → Type 0) (R : Board → Board → Type 0) (goes
   engine_in_turn Step count old new each steps = each_in_turn Step Stays stays_itself step_further each count old new steps
 
   -- the desk of leases alone changes
-  board_alone : (old new : Engine) → R old.sessions.desk.board new.sessions.desk.board → new.sessions ≡ record (old.sessions) { desk = new.sessions.desk } → Stays old new
-  board_alone old new goes rest = goes_on old.sessions new.sessions goes rest
+  desk_alone : (old new : Engine) → R old.sessions.desk new.sessions.desk → new.sessions ≡ record (old.sessions) { desk = new.sessions.desk } → Stays old new
+  desk_alone old new goes rest = goes_on old.sessions new.sessions goes rest
 
-  abbrev Kept : LeaseDesk → LeaseDesk → Type 0
-  Kept old new = R old.board new.board
+  session_noted : (s : ℕ) (old new : Engine) → NotesSession s old new → Stays old new
+  session_noted s old new is = same_sessions old new (ap (λ (e : Engine). e.sessions) is.1)
 
-  module _ (g : IsKept Kept) where
+  pub records_handed_out : (old new : Engine) (records : List Record) → HandsOut old new records → Stays old new
+  records_handed_out old new records is =
+      step_further old is.noted new (engine_in_turn NotesSession (length old.sessions.desk.board.sessions) old is.noted session_noted is.notes) (same_sessions is.noted new (ap (λ (e : Engine). e.sessions) is.rest))
+
+  module _ (g : IsKept R) where
     next_accepted : (answer : Accepted) (old new : AtWire) → AcceptsNext answer old new → Stays old.engine new.engine
     next_accepted answer old new is = elim is [
-      | inl asks ↦ board_alone old.engine new.engine (accepted_as Kept g answer old.engine.moment old.engine.sessions.desk new.engine.sessions.desk asks.accepts) (ap (λ (e : Engine). e.sessions) asks.rest)
+      | inl asks ↦ desk_alone old.engine new.engine (accepted_as R g answer old.engine.moment old.engine.sessions.desk new.engine.sessions.desk asks.accepts) (ap (λ (e : Engine). e.sessions) asks.rest)
       | inr none ↦ same_sessions old.engine new.engine (ap (λ (a : AtWire). a.engine.sessions) none.1.1)
     ]
 
     session_dialled : (s : ℕ) (old new : AtWire) → DialsSession s old new → Stays old.engine new.engine
-    session_dialled s old new is = board_alone old.engine new.engine
-        (dialled_as Kept g is.answer s old.engine.moment (until_of old.engine) old.engine.sessions.desk new.engine.sessions.desk old.engine.dialler new.engine.dialler is.dials) (ap (λ (e : Engine). e.sessions) is.rest)
+    session_dialled s old new is = desk_alone old.engine new.engine
+        (dialled_as R g is.answer s old.engine.moment (until_of old.engine) old.engine.sessions.desk new.engine.sessions.desk old.engine.dialler new.engine.dialler is.dials) (ap (λ (e : Engine). e.sessions) is.rest)
 
     session_ticked : (s : ℕ) (old new : Engine) → TicksSession s old new → Stays old new
-    session_ticked s old new is = board_alone old new (ticked Kept g s old.moment (until_of old) old.sessions.desk new.sessions.desk is.end is.ticks) (ap (λ (e : Engine). e.sessions) is.rest)
+    session_ticked s old new is = desk_alone old new (ticked R g s old.moment (until_of old) old.sessions.desk new.sessions.desk is.end is.ticks) (ap (λ (e : Engine). e.sessions) is.rest)
 
     one_read : (k : ℕ) (old new : Reading) → ReadsIfStands k old new → Stays old.engine new.engine
     one_read k old new is = elim is [
-      | inl reads ↦ board_alone old.engine new.engine (read Kept g reads.answer _ k _ old.engine.moment (until_of old.engine) _ _ reads.reads) (ap (λ (e : Engine). e.sessions) reads.rest)
+      | inl reads ↦ desk_alone old.engine new.engine (read R g reads.answer _ k _ old.engine.moment (until_of old.engine) _ _ reads.reads) (ap (λ (e : Engine). e.sessions) reads.rest)
       | inr none ↦ same_sessions old.engine new.engine (ap (λ (r : Reading). r.engine.sessions) none.1)
     ]
 
-    session_noted : (s : ℕ) (old new : Engine) → NotesSession s old new → Stays old new
-    session_noted s old new is = same_sessions old new (ap (λ (e : Engine). e.sessions) is.1)
-
     session_published : (s : ℕ) (old new : Engine) → PublishesSession s old new → Stays old new
-    session_published s old new is = board_alone old new (subst (R old.sessions.desk.board) (sym is.board) (g.itself old.sessions.desk)) (ap (λ (e : Engine). e.sessions) is.rest)
+    session_published s old new is = desk_alone old new (g.publishes s (length (book_at old.sessions.desk.board s).inbound) old.sessions.desk new.sessions.desk is.board is.seat) (ap (λ (e : Engine). e.sessions) is.rest)
 
     all_written : (links_old links_new : ℕ → Link) (old new : Engine) (bytes : ℕ) → WritesAll links_old links_new old new bytes → Stays old new
     all_written links_old links_new old new bytes is =
         let places = open_places old.lines in
-        board_alone old new (written_in_turn Kept g places (length places) (written_so_far old.sessions.desk old.lines.unkept.items links_old 0)
+        desk_alone old new (written_in_turn R g places (length places) (written_so_far old.sessions.desk old.lines.unkept.items links_old 0)
         (written_so_far new.sessions.desk old.lines.unkept.items links_new bytes) is.writes) (ap (λ (e : Engine). e.sessions) is.rest)
 
     turn_given : (old new : AtWire) (taken : Taken) (turn : Turn) → GivesTurn old new taken turn → Stays old.engine new.engine
@@ -81,9 +83,10 @@ module _ (Holds : LibraryDesk → Type 0) (R : Board → Board → Type 0) (goes
         step_further old.engine gives.published new.engine (engine_in_turn PublishesSession (length old.engine.sessions.desk.board.sessions) old.engine gives.published session_published gives.publishes)
         (all_written old.links new.links gives.published new.engine turn.written gives.writes)
 
-    pub records_handed_out : (old new : Engine) (records : List Record) → HandsOut old new records → Stays old new
-    records_handed_out old new records is =
-        step_further old is.noted new (engine_in_turn NotesSession (length old.sessions.desk.board.sessions) old is.noted session_noted is.notes) (same_sessions is.noted new (ap (λ (e : Engine). e.sessions) is.rest))
+    -- each session is gathered, one after another
+    pub all_gathered : (at until : ℕ) (old : LibraryDesk) (gathered : LeaseDesk) → GathersAll at until old.desk gathered → Holds old → Holds (record old { desk = gathered })
+    all_gathered at until old gathered gathers holds =
+        goes_on old (record old { desk = gathered }) (gathered_in_turn R g at until old.desk gathered gathers) refl holds
 
     module _ (serves : (library at until : ℕ) (old new : LibraryDesk) (turn : LibTurn) → 1 ≤ library → Serves library at until old new turn → Holds old → Holds new) where
       one_served : (i : ℕ) (old new : Serving) → ServesOne (i + 1) old new → Stays old.engine new.engine

@@ -1,11 +1,13 @@
 use Rattle.std.proofs.Common.{◌≡◌, [], refl, sym, ap, subst, arith}
 use Rattle.std.proofs.lemmas.List.Elements.{All-nil}
+use Rattle.engine_end.specs.Finishing.{with_seats}
+use Rattle.lease_desk.specs.declared.desk.LeaseDesk.{LeaseDesk}
 use Rattle.library_desk.specs.declared.desk.LibraryDesk.{LibraryDesk}
 use Rattle.library_laws.specs.Feeds.{AreFed, IsFed, IsLogged}
-use Rattle.library_laws.proofs.Fed.{board_goes_on, served}
+use Rattle.library_laws.proofs.Fed.{board_goes_on, met, served}
 use Rattle.library_laws.proofs.Going.{Keeps, Laws, gathering_keeps, keeps_further, keeps_itself, run_keeps}
 use Rattle.library_laws.proofs.Steps.{IsKept}
-use Rattle.library_laws.proofs.Turns.{records_handed_out, turn_made, turn_taken}
+use Rattle.library_laws.proofs.Turns.{all_gathered, records_handed_out, turn_made, turn_taken}
 use Rattle.library_laws.proofs.laws.messages_are_in_order.Goals as goal
 
 laws : goal.After-words_raise_lines → Laws
@@ -22,12 +24,17 @@ laws c = record {
   session = c.others_stay.ensures.session;
 }
 
-kept : goal.After-words_raise_lines → IsKept (λ a b. Keeps a.board b.board)
+-- the boards of two desks
+abbrev KeepsBoard : LeaseDesk → LeaseDesk → Type 0
+KeepsBoard old new = Keeps old.board new.board
+
+kept : goal.After-words_raise_lines → IsKept KeepsBoard
 kept c = record {
   itself = λ desk. keeps_itself desk.board;
   further = λ first second third. keeps_further first.board second.board third.board;
   gathers = gathering_keeps (laws c);
   aside = λ happenings old new all reaches seat. run_keeps (laws c) happenings old.board new.board all reaches;
+  publishes = λ s count old new board seat. subst (Keeps old.board) (sym board) (keeps_itself old.board);
   joins = c.boards_stay_ready.ensures.further;
 }
 
@@ -52,10 +59,19 @@ pub returns-clause-serves : goal.returns-clause-serves
 returns-clause-serves c = served (laws c) c.lines_tell_the_owner.ensures.lease c.last_lines_are_last.ensures.last
 
 pub returns-clause-takes : goal.returns-clause-takes
-returns-clause-takes c = turn_taken AreFed Keeps goes_on (kept c) (served (laws c) c.lines_tell_the_owner.ensures.lease c.last_lines_are_last.ensures.last)
+returns-clause-takes c = turn_taken AreFed KeepsBoard goes_on (kept c) (served (laws c) c.lines_tell_the_owner.ensures.lease c.last_lines_are_last.ensures.last)
 
 pub returns-clause-turn : goal.returns-clause-turn
-returns-clause-turn c = turn_made AreFed Keeps goes_on (kept c) (served (laws c) c.lines_tell_the_owner.ensures.lease c.last_lines_are_last.ensures.last)
+returns-clause-turn c = turn_made AreFed KeepsBoard goes_on (kept c) (served (laws c) c.lines_tell_the_owner.ensures.lease c.last_lines_are_last.ensures.last)
 
 pub returns-clause-hands_out : goal.returns-clause-hands_out
-returns-clause-hands_out c = records_handed_out AreFed Keeps goes_on (kept c)
+returns-clause-hands_out c = records_handed_out AreFed KeepsBoard goes_on
+
+pub returns-clause-gathers : goal.returns-clause-gathers
+returns-clause-gathers c = λ seats at until old gathered gathers was.
+    let seated : AreFed (with_seats seats old) = record { cursors = was.cursors; fed = was.fed } in
+    let behind = all_gathered AreFed KeepsBoard goes_on (kept c) at until (with_seats seats old) gathered gathers seated in
+    record { cursors = behind.cursors; fed = behind.fed }
+
+pub returns-clause-meets : goal.returns-clause-meets
+returns-clause-meets c = λ library old new tail_old tail_new head_old head_new from_one rings rest was. met library old new tail_old tail_new head_old head_new from_one rings rest was

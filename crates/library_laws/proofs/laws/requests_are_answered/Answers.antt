@@ -2,15 +2,16 @@ use Rattle.std.proofs.Common.{◌≡◌, ℕ, List, [], ◌∷◌, ◌++◌, fal
 use Rattle.std.proofs.lemmas.List.{append-nil}
 use Rattle.std.proofs.lemmas.List.Elements.{All-head, All-tail}
 use Rattle.std.specs.List.{All, flat_map}
+use Rattle.engine_end.specs.Finishing.{with_seats}
 use Rattle.lease_core.specs.declared.entry.Entry.{Entry}
 use Rattle.lease_core.specs.declared.messages.Notice.{Notice}
 use Rattle.lease_desk.specs.Desk.{bodies_of, is_of_leases}
 use Rattle.library_desk.specs.declared.desk.LibraryDesk.{LibraryDesk}
 use Rattle.library_laws.specs.Replies.{AreAnswered, KeepsReplies, answered_by, asked_by, replies_told, reply_of, stray_reply, stray_told}
-use Rattle.library_laws.proofs.Served.{RepliesStay, board_goes_on, joined, served, unchanged}
+use Rattle.library_laws.proofs.Served.{RepliesStay, board_goes_on, joined, met, served, unchanged}
 use Rattle.library_laws.proofs.Stays.{unasked}
 use Rattle.library_laws.proofs.Steps.{IsKept}
-use Rattle.library_laws.proofs.Turns.{records_handed_out, turn_made, turn_taken}
+use Rattle.library_laws.proofs.Turns.{all_gathered, records_handed_out, turn_made, turn_taken}
 use Rattle.library_laws.proofs.laws.requests_are_answered.Goals as goal
 use Rattle.switchboard.specs.Board.{Board, book_at}
 use Rattle.switchboard.specs.Happenings.{Happening, Reaches, reserves, shows}
@@ -32,6 +33,7 @@ kept c = record {
       joined old.board is.reaches.0 new.board (c.replies_stay.ensures.happening (reserves s) old.board is.reaches.0 refl is.reaches.1.0)
       (subst (KeepsReplies is.reaches.0) (sym ended.1.1) (c.replies_stay.ensures.happening (shows s is.word (bodies_of is.items) at until) is.reaches.0 ended.0 refl ended.1.0));
   aside = λ happenings old new all reaches seat. ran_aside c happenings old.board new.board all reaches;
+  publishes = λ s count old new board seat. subst (KeepsReplies old.board) (sym board) (unchanged old.board);
   joins = c.boards_stay_ready.ensures.further;
 }
 
@@ -53,10 +55,16 @@ goes_on : goal.After-replies_stay → (before : ℕ → List Entry) → (old new
 goes_on c before old new keeps rest = board_goes_on c.others_stay.ensures.session before old new keeps (ap (λ (d : LibraryDesk). d.strays.items) rest) (ap (λ (d : LibraryDesk). d.ends.items) rest)
 
 pub returns-clause-takes : goal.returns-clause-takes
-returns-clause-takes c = λ before. turn_taken (AreAnswered before) KeepsReplies (goes_on c before) (kept c) (served c.others_stay.ensures.session before c.replies_stay.ensures.happening)
+returns-clause-takes c = λ before. turn_taken (AreAnswered before) RepliesStay (goes_on c before) (kept c) (served c.others_stay.ensures.session before c.replies_stay.ensures.happening)
 
 pub returns-clause-turn : goal.returns-clause-turn
-returns-clause-turn c = λ before. turn_made (AreAnswered before) KeepsReplies (goes_on c before) (kept c) (served c.others_stay.ensures.session before c.replies_stay.ensures.happening)
+returns-clause-turn c = λ before. turn_made (AreAnswered before) RepliesStay (goes_on c before) (kept c) (served c.others_stay.ensures.session before c.replies_stay.ensures.happening)
 
 pub returns-clause-hands_out : goal.returns-clause-hands_out
-returns-clause-hands_out c = λ before. records_handed_out (AreAnswered before) KeepsReplies (goes_on c before) (kept c)
+returns-clause-hands_out c = λ before. records_handed_out (AreAnswered before) RepliesStay (goes_on c before)
+
+pub returns-clause-gathers : goal.returns-clause-gathers
+returns-clause-gathers c = λ before seats at until old gathered gathers was. all_gathered (AreAnswered before) RepliesStay (goes_on c before) (kept c) at until (with_seats seats old) gathered gathers was
+
+pub returns-clause-meets : goal.returns-clause-meets
+returns-clause-meets c = λ before library old new tail_old tail_new head_old head_new from_one rings rest. met c.others_stay.ensures.session before library old new tail_old tail_new head_old head_new from_one rings rest
