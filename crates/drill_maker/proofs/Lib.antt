@@ -1,3 +1,5 @@
 -- Lemmas.
 pub mod Lengths
 pub mod Ranges
+pub mod Configured
+pub mod Lawful

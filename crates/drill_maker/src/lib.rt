@@ -6,6 +6,7 @@
 
 mod bodies;
 mod drilling;
+pub mod laws;
 mod limits;
 mod rounds;
 mod steps;
