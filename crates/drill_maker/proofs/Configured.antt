@@ -118,7 +118,7 @@ with_range limit (suc count) numbers was =
     let next : limit + count + 1 ≡ limit + suc count = omega arith in
     let longer : count + 1 ≡ suc count = omega arith in
     let list : (numbers ++ range_with_len limit count) ++ (limit + count) ∷ [] ≡ numbers ++ range_with_len limit (suc count) =
-        append_assoc numbers (range_with_len limit count) ((limit + count) ∷ []) ∙ ap (λ xs. numbers ++ xs) (sym (range_more limit count) ∙ ap (range_with_len limit) longer) in
+    append_assoc numbers (range_with_len limit count) ((limit + count) ∷ []) ∙ ap (λ xs. numbers ++ xs) (sym (range_more limit count) ∙ ap (range_with_len limit) longer) in
     subst (λ n. InOrder n (numbers ++ range_with_len limit (suc count))) next (subst (InOrder (limit + count + 1)) list so_far)
 
 pub raised : (limit more : ℕ) (numbers : List ℕ) → limit ≤ more → InOrder limit numbers → InOrder more numbers

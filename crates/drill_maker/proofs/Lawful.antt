@@ -103,27 +103,47 @@ module _ (longest : (body : List ℕ) → (length (frame_of body) ≤ LONGEST_FR
   unfolding logon_of
   logon_fits c few =
       let fields : List Field = field 49 (codes "P" ++ decimal c) ∷ field 56 (codes "GATE") ∷ field 34 (codes "1") ∷ field 52 (codes "20260105-09:30:00.000") ∷ field 98 (codes "0") ∷ field 108 (codes "30") ∷ [] in
-      let short = texts_short (field 35 (codes "A") ∷ fields)
-          (field_short 35 (codes "A") (omega arith) (omega arith),
-          (field_short 49 (codes "P" ++ decimal c) (omega arith) (counterparty_short c few),
-          (field_short 56 (codes "GATE") (omega arith) (omega arith),
-          (field_short 34 (codes "1") (omega arith) (omega arith),
-          (field_short 52 (codes "20260105-09:30:00.000") (omega arith) (omega arith),
-          (field_short 98 (codes "0") (omega arith) (omega arith),
-          (field_short 108 (codes "30") (omega arith) (omega arith), tt))))))) in
+      let short = texts_short (field 35 (codes "A") ∷ fields) (
+        field_short 35 (codes "A") (omega arith) (omega arith),
+        (
+          field_short 49 (codes "P" ++ decimal c) (omega arith) (counterparty_short c few),
+          (
+            field_short 56 (codes "GATE") (omega arith) (omega arith),
+            (
+              field_short 34 (codes "1") (omega arith) (omega arith),
+              (
+                field_short 52 (codes "20260105-09:30:00.000") (omega arith) (omega arith),
+                (
+                  field_short 98 (codes "0") (omega arith) (omega arith),
+                  (field_short 108 (codes "30") (omega arith) (omega arith), tt),
+                ),
+              ),
+            ),
+          ),
+        ),
+      ) in
       ((refl, is_made c few, typed (field 35 (codes "A")) fields refl, fits_in (logon_of c) 210 short (omega arith)), tt)
 
   order_fits : (round c : ℕ) → round < 500 → c < 8 → AllFit (order_steps round c)
   unfolding order_of
   order_fits round c early few =
       let fields : List Field = field 49 (codes "P" ++ decimal c) ∷ field 56 (codes "GATE") ∷ field 34 (decimal (round + 2)) ∷ field 52 (codes "20260105-09:30:00.000") ∷ field 11 (decimal round) ∷ [] in
-      let short = texts_short (field 35 (codes "D") ∷ fields)
-          (field_short 35 (codes "D") (omega arith) (omega arith),
-          (field_short 49 (codes "P" ++ decimal c) (omega arith) (counterparty_short c few),
-          (field_short 56 (codes "GATE") (omega arith) (omega arith),
-          (field_short 34 (decimal (round + 2)) (omega arith) (number_short (round + 2) (omega arith)),
-          (field_short 52 (codes "20260105-09:30:00.000") (omega arith) (omega arith),
-          (field_short 11 (decimal round) (omega arith) (number_short round (omega arith)), tt)))))) in
+      let short = texts_short (field 35 (codes "D") ∷ fields) (
+        field_short 35 (codes "D") (omega arith) (omega arith),
+        (
+          field_short 49 (codes "P" ++ decimal c) (omega arith) (counterparty_short c few),
+          (
+            field_short 56 (codes "GATE") (omega arith) (omega arith),
+            (
+              field_short 34 (decimal (round + 2)) (omega arith) (number_short (round + 2) (omega arith)),
+              (
+                field_short 52 (codes "20260105-09:30:00.000") (omega arith) (omega arith),
+                (field_short 11 (decimal round) (omega arith) (number_short round (omega arith)), tt),
+              ),
+            ),
+          ),
+        ),
+      ) in
       ((refl, is_made c few, typed (field 35 (codes "D")) fields refl, fits_in (order_of c round) 180 short (omega arith)), tt)
 
   work_fits : (round library : ℕ) → 1 ≤ library → library < 5 → AllFit (work_steps round library)
@@ -131,8 +151,8 @@ module _ (longest : (body : List ℕ) → (length (frame_of body) ≤ LONGEST_FR
   work_fits round library least most =
       let known : library ≤ 4 = omega arith in
       fit_append (for_each 0 (poll_count round) (poll_steps library)) _
-          (each_fits 0 (poll_count round) (poll_count round) (poll_steps library) (omega arith) (λ k from to. ((least, known, tt), tt)))
-          ((least, known, tt), ((least, known, tt), tt))
+      (each_fits 0 (poll_count round) (poll_count round) (poll_steps library) (omega arith) (λ k from to. ((least, known, tt), tt)))
+      ((least, known, tt), ((least, known, tt), tt))
 
   round_fits : (round : ℕ) → round < 500 → AllFit (round_steps round)
   unfolding round_steps
@@ -140,9 +160,9 @@ module _ (longest : (body : List ℕ) → (length (frame_of body) ≤ LONGEST_FR
       let turn : List Step = step.Turn ∷ [] in
       let works : AllFit (for_libraries (work_steps round) ++ turn) = fit_append (for_libraries (work_steps round)) turn (each_fits 1 4 5 (work_steps round) (omega arith) (λ l from to. work_fits round l from to)) (refl, tt) in
       let orders : AllFit (for_counterparties (order_steps round) ++ turn ++ for_libraries (work_steps round) ++ turn) =
-          fit_append (for_counterparties (order_steps round)) (turn ++ for_libraries (work_steps round) ++ turn) (each_fits 0 8 8 (order_steps round) (omega arith) (λ c from to. order_fits round c early to)) (refl, works) in
+      fit_append (for_counterparties (order_steps round)) (turn ++ for_libraries (work_steps round) ++ turn) (each_fits 0 8 8 (order_steps round) (omega arith) (λ c from to. order_fits round c early to)) (refl, works) in
       fit_append (for_libraries (request_steps round)) (turn ++ for_counterparties (order_steps round) ++ turn ++ for_libraries (work_steps round) ++ turn)
-          (each_fits 1 4 5 (request_steps round) (omega arith) (λ l from to. ((from, omega arith, tt), tt))) (refl, orders)
+      (each_fits 1 4 5 (request_steps round) (omega arith) (λ l from to. ((from, omega arith, tt), tt))) (refl, orders)
 
   -- what stands behind the first moment and the connections
   abbrev lines_behind : ℕ → List Step
@@ -157,14 +177,39 @@ module _ (longest : (body : List ℕ) → (length (frame_of body) ≤ LONGEST_FR
       let first : AllFit (logons ++ turns) = fit_append logons turns (each_fits 0 8 8 logon_steps (omega arith) (λ c from to. logon_fits c to)) (each_fits 0 8 8 turn_steps (omega arith) (λ c from to. (refl, tt))) in
       let second : AllFit ((logons ++ turns) ++ rounds) = fit_append (logons ++ turns) rounds first (each_fits 0 n n round_steps (omega arith) (λ r from to. round_fits r (omega arith))) in
       let third : AllFit (((logons ++ turns) ++ rounds) ++ finishes) =
-          fit_append ((logons ++ turns) ++ rounds) finishes second (each_fits 0 8 8 finish_steps (omega arith) (λ c from to. ((refl, is_made c to), tt))) in
+      fit_append ((logons ++ turns) ++ rounds) finishes second (each_fits 0 8 8 finish_steps (omega arith) (λ c from to. ((refl, is_made c to), tt))) in
       fit_append (((logons ++ turns) ++ rounds) ++ finishes) (step.Turn ∷ []) third (refl, tt)
 
   steps_fit : (n : ℕ) → n ≤ 500 → StepsFit false 4 (record { connect = 0; take = FIRST_DIALLED }) 0 (steps_of n)
   unfolding steps_of
-  steps_fit n few = ((refl, omega arith, omega arith),
-      ((refl, omega arith), ((refl, omega arith), ((refl, omega arith), ((refl, omega arith), ((refl, omega arith), ((refl, omega arith), ((refl, omega arith), ((refl, omega arith),
-      behind (lines_behind n) (behind_fit n few))))))))))
+  steps_fit n few = (
+    (refl, omega arith, omega arith),
+    (
+      (refl, omega arith),
+      (
+        (refl, omega arith),
+        (
+          (refl, omega arith),
+          (
+            (refl, omega arith),
+            (
+              (refl, omega arith),
+              (
+                (refl, omega arith),
+                (
+                  (refl, omega arith),
+                  (
+                    (refl, omega arith),
+                    behind (lines_behind n) (behind_fit n few),
+                  ),
+                ),
+              ),
+            ),
+          ),
+        ),
+      ),
+    ),
+  )
 
 -- none of them makes a connection
 no_connect : (lines : List Step) → AllFit lines → connects_in lines ≡ 0
