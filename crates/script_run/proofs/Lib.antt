@@ -1,0 +1,6 @@
+mod Asked
+mod Fit
+mod Made
+mod Moments
+mod Places
+mod Seated

@@ -1,0 +1,4 @@
+pub mod Comes
+pub mod Calls
+pub mod Runs
+pub mod Means

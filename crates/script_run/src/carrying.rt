@@ -1,0 +1,92 @@
+//! A script, carried out from its first step to its last.
+
+ghost use Rattle.std.specs.Prelude.{◌≡◌, ◌≤◌, IfErr, IfOk, false, length};
+ghost use Rattle.std.specs.List.{All};
+ghost use Rattle.engine_end.specs.Records.{HasLawfulJournal};
+ghost use Rattle.script_run.specs.Comes.{FitBehind};
+ghost use Rattle.script_run.specs.Means.{LeadsTo, Means, first_moment};
+ghost use Rattle.script_run.specs.Runs.{IsRunning};
+ghost use Rattle.script_text.specs.Lawful.{IsLawful};
+
+use crate::leaving::LibraryRoom;
+use crate::run::Run;
+use crate::starting::start;
+use engine_end::EngineRecord;
+use gate_io::{NoMemory, Rows};
+use library_desk::Shared;
+use run_report::RunRecord;
+use script_text::{Script, Step};
+use std::alloc::Global;
+
+/// Carries out a script on one thread: the engine over a wire and a clock in memory, and the libraries, whose
+/// calls meet the engine. It takes time in proportion to the script and to what follows from it. Without
+/// memory the run ends and leaves what there is, each journal lawful.
+pub fn carry_out(alloc: Global, script: Script) -> Result<RunRecord, (NoMemory, RunRecord)>
+    requires lawful { IsLawful false script }
+    ensures means { IfOk result (Means script) }
+    ensures journals { IfOk result (λ left. All HasLawfulJournal left.engine.sessions) }
+    ensures journals_short { IfErr result (λ e. All HasLawfulJournal e.1.engine.sessions) }
+{
+    let Script { config, steps, .. } = script;
+    let steps = steps.as_slice();
+    let room = match LibraryRoom::new(alloc, usize::from(config.libraries)) {
+        Ok(room) => room,
+        Err(why) => return Err((why, no_record(alloc))),
+    };
+    match start(alloc, config, first_moment(steps)) {
+        Ok((shared, run)) => carry_to_end(alloc, &shared, run, room, steps),
+        Err(why) => Err((why, no_record(alloc))),
+    }
+}
+
+/// Carries out the steps from the beginning on, and hands out what the run leaves.
+fn carry_to_end(
+    alloc: Global,
+    shared: &Shared,
+    mut run: Run,
+    room: LibraryRoom,
+    steps: &[Step],
+) -> Result<RunRecord, (NoMemory, RunRecord)>
+    requires running { IsRunning shared.now run }
+    requires stands { run.engine.failed ≡ false }
+    requires fit { FitBehind (length run.callers.items) run.wire steps.now }
+    requires room { length run.callers.items ≤ room }
+    ensures leads { IfOk result (LeadsTo steps.now run) }
+    ensures journals { IfOk result (λ left. All HasLawfulJournal left.engine.sessions) }
+    ensures journals_short { IfErr result (λ e. All HasLawfulJournal e.1.engine.sessions) }
+{
+    match run.carry_all(alloc, shared, steps) {
+        Ok(()) => run.leave(alloc, shared, room),
+        Err(why) => match run.leave(alloc, shared, room) {
+            Ok(left) | Err((_, left)) => Err((why, left)),
+        },
+    }
+}
+
+/// The record of a run that didn't begin.
+fn no_record(alloc: Global) -> RunRecord
+    ensures { All HasLawfulJournal result.engine.sessions }
+{
+    RunRecord {
+        engine: EngineRecord {
+            sessions: Rows::of(Vec::new(alloc)),
+            connections: Rows::of(Vec::new(alloc)),
+            strays: Rows::of(Vec::new(alloc)),
+            accepted: 0,
+            added: Rows::of(Vec::new(alloc)),
+        },
+        libraries: Rows::of(Vec::new(alloc)),
+    }
+}
+
+/// The moment of the first step that sets the clock, or 0.
+fn first_moment(steps: &[Step]) -> u64
+    ensures { result ≡ first_moment steps.now }
+{
+    for step in steps {
+        if let Step::At { moment } = step {
+            return *moment;
+        }
+    }
+    0
+}
