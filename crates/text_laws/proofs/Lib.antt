@@ -1,0 +1,7 @@
+mod Frames
+mod Standing
+mod Steps
+mod Writing
+mod Taking
+mod Turns
+mod Told
