@@ -14,7 +14,7 @@ use std::alloc::Global;
 
 /// A library as a run has it, with its number and its calls so far.
 #[derive(Drop)]
-pub(crate) struct Caller {
+pub struct Caller {
     pub(crate) number: u8,
     pub(crate) library: Library,
     pub(crate) calls: Vec<Call>,

@@ -10,4 +10,6 @@ mod meeting;
 mod run;
 mod starting;
 
+pub use callers::Caller;
 pub use carrying::carry_out;
+pub use run::Run;

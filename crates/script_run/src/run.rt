@@ -21,9 +21,10 @@ use library_desk::Shared;
 use script_text::{LibStep, Step};
 use std::alloc::Global;
 
-/// A run: the engine, the outside as the script makes it, and the libraries in the order of their numbers.
+/// A run: the engine, the outside as the script makes it, and the libraries in the order of their numbers. What
+/// a script means is told over runs.
 #[derive(Drop)]
-pub(crate) struct Run {
+pub struct Run {
     pub(crate) engine: Engine,
     pub(crate) wire: MemWire,
     pub(crate) clock: StepClock,
