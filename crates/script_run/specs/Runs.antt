@@ -1,7 +1,7 @@
 -- A run between two lines of a script, and what a line does.
 use Rattle.std.specs.Prelude.{◌≡◌, ℕ, ◌+◌, ◌-◌, false, List, [], length, slice_get, slice_set, Some}
 use Rattle.engine_end.specs.Meeting.{RingsMeet, SeatsMeet}
-use Rattle.engine_loop.specs.Engines.{IsEngine}
+use Rattle.engine_loop.specs.Engines.{IsAtWork, IsEngine, IsOnline}
 use Rattle.engine_loop.specs.Turns.{MakesTurn, at_wire}
 use Rattle.engine_loop.specs.declared.engine.Engine.{Engine}
 use Rattle.engine_loop.specs.declared.records.Turn.{Turn}
@@ -69,8 +69,11 @@ pub record CallsBetween (what : LibStep) (place : ℕ) (old new : Run) : Type 0 
   pub calls : CallsAt what place met called
   pub meets_again : Meets place called new
 
--- The engine makes a turn at the clock's moment.
+-- The engine, which is at work over its wire, makes a turn at the clock's moment.
 pub record TurnsOver (old new : Run) : Type 0 where
+  pub shared : Shared
+  pub work : IsAtWork shared old.engine
+  pub online : IsOnline old.engine (door_of old.wire) (link_at old.wire)
   pub turn : Turn
   pub turns : MakesTurn old.clock.moment (at_wire old.engine (door_of old.wire) (link_at old.wire)) (at_wire new.engine (door_of new.wire) (link_at new.wire)) turn
   pub clock : new.clock ≡ clock_after old.clock

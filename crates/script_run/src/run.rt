@@ -76,6 +76,7 @@ impl Run {
     /// The engine makes a turn, in which each connection that isn't closed has room for what is written to it.
     fn turn(&mut self, alloc: Global, shared: &Shared) -> Result<(), NoMemory>
         requires running { IsRunning shared.now self.old }
+        requires stands { self.old.engine.failed ≡ false }
         ensures turns { OnOk result (TurnsOver (with_room self.old) self.new) }
         ensures running { IsRunning shared.now self.new }
         ensures stands { OnOk result (self.new.engine.failed ≡ false) }
@@ -92,6 +93,7 @@ impl Run {
         ensures room { OnOk result (self.new ≡ with_room self.old) }
         ensures running { IsRunning _shared.now self.new }
         ensures made { next_of self.new.wire ≡ next_of self.old.wire }
+        ensures engine { self.new.engine ≡ self.old.engine }
         ensures callers { self.new.callers ≡ self.old.callers }
     {
         engines_stay();
@@ -101,6 +103,7 @@ impl Run {
     /// The engine makes a turn over the wire as it is.
     fn turn_over(&mut self, alloc: Global, shared: &Shared) -> Result<(), NoMemory>
         requires running { IsRunning shared.now self.old }
+        requires stands { self.old.engine.failed ≡ false }
         ensures turns { OnOk result (TurnsOver self.old self.new) }
         ensures running { IsRunning shared.now self.new }
         ensures stands { OnOk result (self.new.engine.failed ≡ false) }
