@@ -1,0 +1,215 @@
+-- The sessions' logs at the end of a run bear out what a library's kept calls say.
+use Rattle.std.proofs.Common.{◌≡◌, ◌≢◌, inl, inr, ℕ, zero, suc, ◌+◌, ◌-◌, ◌<◌, ◌≤◌, Bool, true, false, List, [], ◌∷◌, ◌++◌, get_or, length, map, None, Some, Ok, Err, refl, ap, subst, sym, ◌∙◌, arith}
+use Rattle.std.proofs.lemmas.Bool.{eq-eqb, le-leb}
+use Rattle.std.proofs.lemmas.Grind.{flat_map-append}
+use Rattle.std.proofs.lemmas.List.{length-replicate}
+use Rattle.std.proofs.lemmas.List.Elements.{All-cons, All-contains, All-contains_itself, All-head, All-nil, All-tail, Contains-append_left, Contains-append_right}
+use Rattle.std.proofs.lemmas.Option.{same_Some}
+use Rattle.std.specs.List.{All, Contains, flat_map}
+use Rattle.std.specs.Prelude.{nat_le, ◌==◌, if◌then◌else◌, slice_get}
+use Rattle.lease_core.specs.Lines.{lines_of}
+use Rattle.lease_core.specs.declared.entry.Entry.{Entry}
+use Rattle.lease_core.specs.declared.messages.Notice.{Notice}
+use Rattle.lease_core.specs.declared.messages.Notice.TheVariants as notices
+use Rattle.lease_desk.specs.Desk.{bodies_of}
+use Rattle.lease_words.specs.Leases.{held_lease}
+use Rattle.lease_words.specs.Views.{library_at}
+use Rattle.lease_words.specs.declared.item.Item.{Item}
+use Rattle.lease_words.specs.declared.view.LibrarySession.{LibrarySession}
+use Rattle.library_api.specs.Calls.{deeds_by, deeds_of, did_give, popped_of}
+use Rattle.library_api.specs.Known.{Known, held, lease_in, new_library, no_reading, reading_at, reading_count, session_at}
+use Rattle.library_api.specs.Laws.{BeginningsAreInOrder, DeedsAreAnswered, PollsPop, PostsAreSent, ReadsHaveNoGap, RepliesCloseRequests}
+use Rattle.library_api.specs.Posts.{posts_by, posts_of}
+use Rattle.library_api.specs.Reads.{AreInOrder, granted_from, numbers_from, reads_of}
+use Rattle.library_api.specs.Replies.{IsRepliedTo, replies_in}
+use Rattle.library_desk.specs.declared.desk.Stray.{Stray}
+use Rattle.library_desk.specs.declared.ends.EngineEnds.{EngineEnds}
+use Rattle.library_laws.specs.Feeds.{IsLogged}
+use Rattle.library_laws.specs.Replies.{IsAnswered, replies_told, reply_of, stray_reply}
+use Rattle.library_laws.specs.Sends.{AreLogged}
+use Rattle.run_laws.specs.Accounted.{AreNumbered, LeasesStand, LeavesAccounted}
+use Rattle.run_laws.specs.Lives.{HasLived, HaveLived, IsRepliedInOrder}
+use Rattle.script_run.specs.declared.callers.Caller.{Caller}
+use Rattle.script_run.specs.declared.run.Run.{Run}
+use Rattle.run_laws.specs.Records.{AllAreBorneOut}
+use Rattle.run_laws.specs.Reports.{ArePostsLogged, AreRepliesTold, GivesBack, HandsOn, IsReplyTold, IsTold, positions_kept, posts_kept}
+use Rattle.run_laws.proofs.Given.{DidBy, OnGiven, calls_gave, gave_so}
+use Rattle.run_laws.proofs.Grants.{IsBeside, first_grant, none_given}
+use Rattle.run_laws.proofs.Lived.{none_there}
+use Rattle.run_laws.proofs.Told.{calls_given, positions_told, posts_told}
+use Rattle.run_report.specs.declared.calls.Call.{Call as Kept}
+use Rattle.run_report.specs.declared.calls.Call.TheVariants as calls
+use Rattle.run_report.specs.declared.records.RunRecord.{RunRecord}
+use Rattle.script_run.specs.Means.{seat_of}
+use Rattle.session_book.specs.Book.{Book}
+use Rattle.session_core.specs.State.{State}
+use Rattle.switchboard.specs.Board.{Board, book_at}
+
+-- the library at a place has its seat among the seats
+seat_there : (callers : List Caller) (place : ℕ) (caller : Caller) → slice_get callers place ≡ Some caller → Contains (map seat_of callers) (seat_of caller)
+seat_there [] place caller found = absurd cc
+seat_there (c ∷ callers) zero caller found = (0, omega arith, ap seat_of (same_Some c caller found))
+seat_there (c ∷ callers) (suc place) caller found = (let there = seat_there callers place caller found in (suc there.0, omega arith, there.2))
+
+bodies_posted : (items : List Item) → bodies_of items ≡ map (λ post. post.body) (posts_by items)
+bodies_posted [] = refl
+bodies_posted (item ∷ items) = ap (λ bodies. item.body ∷ bodies) (bodies_posted items)
+
+-- what holds of all holds of what begins them
+of_front : {T : Type 0} (P : T → Type 0) (xs ys : List T) → All P (xs ++ ys) → All P xs
+of_front P [] ys each = All-nil P
+of_front P (x ∷ xs) ys each = All-cons P x xs (All-head P x (xs ++ ys) each) (of_front P xs ys (All-tail P x (xs ++ ys) each))
+
+of_begun : {T : Type 0} (P : T → Type 0) (first rest all : List T) → first ++ rest ≡ all → All P all → All P first
+of_begun P first rest all is holding = of_front P first rest (subst (All P) (sym is) holding)
+
+module _ (polls_pop : PollsPop) (closed : RepliesCloseRequests) (deeds_are_answered : DeedsAreAnswered) (posts_are_sent : PostsAreSent) (no_gap : ReadsHaveNoGap) (beginnings : BeginningsAreInOrder) where
+  module _ (requests : ℕ) (caller : Caller) (lived : HasLived requests caller) where
+    abbrev k : Known
+    k = new_library lived.first requests
+
+    -- what was popped is what its polls popped
+    popped_is : popped_of k lived.made ≡ caller.library.ends.head.popped
+    popped_is =
+        sym (ap (λ (now : Known). now.ends.head.popped) lived.known ∙ (polls_pop k lived.made lived.lawful ∙ ap (λ popped. popped ++ popped_of k lived.made) lived.unused.popped))
+
+    posts_are : (s : ℕ) → posts_by (library_at caller.library.ends.seat s).items ≡ posts_kept s caller.calls.items
+    posts_are s =
+        ap (λ (now : Known). posts_by (session_at now s).items) lived.known ∙ (posts_are_sent s k lived.made lived.lawful
+        ∙ (ap (λ (ls : LibrarySession). posts_by ls.items ++ posts_of s k lived.made) (lived.unused.sessions s) ∙ sym (posts_told s k lived.made caller.calls.items lived.kept)))
+
+    logged_posts : (library s : ℕ) (before : List Entry) (book : Book) → AreLogged library before book (library_at caller.library.ends.seat s).items → ArePostsLogged library before book (posts_kept s caller.calls.items)
+    logged_posts library s before book is = record {
+      sends = is.sends;
+      sends_are = is.sends_are;
+      bodies = is.bodies ∙ (bodies_posted (library_at caller.library.ends.seat s).items ∙ ap (map (λ post. post.body)) (posts_are s));
+    }
+
+    nothing_held : (is : Bool) → ◌≡◌ {A = ℕ} (if is then 0 else 0) 0
+    nothing_held true = refl
+    nothing_held false = refl
+
+    nothing_read : (s : ℕ) → reading_at k s ≡ no_reading
+    nothing_read s = none_there reading_count s no_reading
+
+    positions_are : (s lease : ℕ) → 0 < lease → s < reading_count → AreInOrder s lease None caller.library.ends.head.popped
+        → positions_kept s lease caller.calls.items ≡ numbers_from (granted_from s lease caller.library.ends.head.popped) (length (positions_kept s lease caller.calls.items))
+    positions_are s lease some small in_order =
+        let told = positions_told s lease k lived.made caller.calls.items lived.kept in
+        let seated : held k s ≡ (reading_at k s).lease =
+        ap (λ r. lease_in r.lease (held_lease (session_at k s).leases)) (nothing_read s) ∙ (nothing_held (0 == held_lease (session_at k s).leases) ∙ sym (ap (λ r. r.lease) (nothing_read s))) in
+        let at : (reading_at k s).lease ≢ lease = λ same. (let zero_is = ap (λ r. r.lease) (nothing_read s) in omega arith) in
+        let reads = no_gap s lease None k lived.made some small (length-replicate reading_count no_reading) lived.lawful seated at (subst (AreInOrder s lease None) (sym popped_is) in_order) in
+        told ∙ (reads ∙ (ap (λ ns. numbers_from (granted_from s lease ns) (length (reads_of s lease k lived.made))) popped_is
+        ∙ ap (λ positions. numbers_from (granted_from s lease caller.library.ends.head.popped) (length positions)) (sym told)))
+
+    -- its requests were replied to
+    replied_to : IsRepliedInOrder requests caller lived → IsRepliedTo caller.library
+    replied_to throughout =
+        subst IsRepliedTo (sym lived.known) (closed k lived.made lived.lawful throughout (inl (sym (ap (λ ns. length (replies_in ns)) lived.unused.popped), refl)))
+
+    -- what its leases say that it did is what its calls answered
+    deeds_are : (s : ℕ) → deeds_of s k lived.made ≡ deeds_by (library_at caller.library.ends.seat s).leases
+    deeds_are s = sym (ap (λ (now : Known). deeds_by (session_at now s).leases) lived.known ∙ (deeds_are_answered s k lived.made lived.lawful
+        ∙ ap (λ (ls : LibrarySession). deeds_by ls.leases ++ deeds_of s k lived.made) (lived.unused.sessions s)))
+
+    given_so : (board : Board) → ((s : ℕ) → s < length board.sessions → LeasesStand (lines_of (book_at board s).entries) caller.number (library_at caller.library.ends.seat s).leases)
+        → (call : Kept) → OnGiven (DidBy k lived.made) call → GivesBack board caller.number call
+    given_so board stand (calls.Release s (Ok released)) did = λ small.
+        let here = stand s small in
+        gave_so here.base (lines_of (book_at board s).entries) caller.number (library_at caller.library.ends.seat s).leases here.each released.lease released.count 0
+        (subst (λ deeds. Contains deeds (did_give released.lease released.count 0)) (deeds_are s) did)
+    given_so board stand (calls.Hand s heir (Ok released)) did = λ small.
+        let here = stand s small in
+        gave_so here.base (lines_of (book_at board s).entries) caller.number (library_at caller.library.ends.seat s).leases here.each released.lease released.count heir
+        (subst (λ deeds. Contains deeds (did_give released.lease released.count heir)) (deeds_are s) did)
+    given_so board stand (calls.Release s (Err why)) did = tt
+    given_so board stand (calls.Hand s heir (Err why)) did = tt
+    given_so board stand (calls.Poll event) did = tt
+    given_so board stand (calls.Send s body answer) did = tt
+    given_so board stand (calls.Request s from answer) did = tt
+    given_so board stand calls.Beat did = tt
+
+    all_given : (board : Board) → ((s : ℕ) → s < length board.sessions → LeasesStand (lines_of (book_at board s).entries) caller.number (library_at caller.library.ends.seat s).leases)
+        → All (GivesBack board caller.number) caller.calls.items
+    all_given board stand i d within = given_so board stand (get_or caller.calls.items i d) (calls_gave k lived.made caller.calls.items lived.kept i d within)
+
+    handed_on : (P : Notice → Type 0) → All P caller.library.ends.head.popped → All (HandsOn P) caller.calls.items
+    handed_on P all = calls_given P k lived.made caller.calls.items lived.kept (subst (All P) (sym popped_is) all)
+
+-- a notice that answers is among those that a list of notices tells
+chosen : {A : Type 0} (test : Bool) (xs : List A) → test ≡ true → (if test then xs else []) ≡ xs
+chosen {A} test xs is = ap (λ (b : Bool). if b then xs else []) is
+
+among : {A B : Type 0} (f : A → List B) (xs : List A) (x : A) (y : B) → f x ≡ y ∷ [] → Contains xs x → Contains (flat_map f xs) y
+among f [] x y one has = absurd (let none = has.1 in omega arith)
+among {A} {B} f (z ∷ zs) x y one (zero, within, is) =
+    Contains-append_left (f z) (flat_map f zs) y (subst (λ (ys : List B). Contains ys y) (sym (ap f is ∙ one)) (0, omega arith, refl))
+among f (z ∷ zs) x y one (suc n, within, is) = Contains-append_right (f z) (flat_map f zs) y (among f zs x y one (n, omega arith, is))
+
+module _ (before : ℕ → List Entry) (board : Board) (strays : List Stray) (library : ℕ) (e : EngineEnds) (answered : IsAnswered before board strays library e) where
+  reply_is_told : (s : ℕ) (n : Notice) → reply_of s n ≡ n ∷ [] → (length board.sessions ≤ s → stray_reply (length board.sessions) n ≡ n ∷ []) → Contains e.tail.pushed n → IsReplyTold board strays library s n
+  reply_is_told s n own stray has = (
+    (λ small. subst (λ ns. Contains ns n) (sym (answered.told s small))
+        (Contains-append_right (replies_told library s (before s)) (flat_map (reply_of s) e.tail.pushed) n (among (reply_of s) e.tail.pushed n n own has))),
+    (λ past. subst (λ ns. Contains ns n) (sym answered.strays_are) (among (stray_reply (length board.sessions)) e.tail.pushed n n (stray past) has)),
+  )
+
+  notice_is_told : (n : Notice) → IsLogged board n → Contains e.tail.pushed n → IsTold board strays library n
+  notice_is_told (notices.Granted nr s lease from start) logged has =
+      reply_is_told s (notices.Granted nr s lease from start) (chosen (s == s) _ (eq-eqb s s refl)) (λ past. chosen (nat_le (length board.sessions) s) _ (le-leb (length board.sessions) s past)) has
+  notice_is_told (notices.Refused nr s why) logged has =
+      reply_is_told s (notices.Refused nr s why) (chosen (s == s) _ (eq-eqb s s refl)) (λ past. chosen (nat_le (length board.sessions) s) _ (le-leb (length board.sessions) s past)) has
+  notice_is_told (notices.Message s lease pos bytes) logged has = logged
+
+  all_told : All (IsLogged board) e.tail.pushed → All (IsTold board strays library) e.tail.pushed
+  all_told logged i d within = notice_is_told (get_or e.tail.pushed i d) (logged i d within) (All-contains_itself e.tail.pushed i d within)
+
+module _ (polls_pop : PollsPop) (closed : RepliesCloseRequests) (deeds_are_answered : DeedsAreAnswered) (posts_are_sent : PostsAreSent) (no_gap : ReadsHaveNoGap) (beginnings : BeginningsAreInOrder) where
+  pub all_borne_out : (before : ℕ → List Entry) (start : ℕ → State) (requests : ℕ) (run : Run) (left : RunRecord) (leaves : LeavesAccounted before start run left) → AreNumbered run → HaveLived requests run
+      → AllAreBorneOut before leaves.gathered.board run.engine.sessions.strays.items run
+  all_borne_out before start requests run left leaves numbered lived place caller found =
+      let one = lived place caller found in
+      let numbers = numbered.each place caller found in
+      let served = one.served in
+      let side = served.side in
+      let board = leaves.gathered.board in
+      let strays = run.engine.sessions.strays.items in
+      let library = place + 1 in
+      let at : slice_get run.engine.sessions.ends.items (library - 1) ≡ Some side = subst (λ j. slice_get run.engine.sessions.ends.items j ≡ Some side) (omega arith) served.found in
+      let fed = leaves.accounted.fed.fed library side (omega arith) at in
+      let answered = leaves.accounted.answered library side (omega arith) at in
+      let seat : caller.library.ends.seat.knows.number ≡ caller.number = numbers.seat ∙ sym numbers.number in
+      let popped_told : All (IsTold board strays caller.number) caller.library.ends.head.popped =
+      subst (λ n. All (IsTold board strays n) caller.library.ends.head.popped) (sym numbers.number)
+      (of_begun (IsTold board strays library) caller.library.ends.head.popped served.popped.rest side.tail.pushed served.popped.is
+      (all_told before board strays library side answered fed.logged)) in
+      record {
+        sends = λ s small. logged_posts polls_pop closed deeds_are_answered posts_are_sent no_gap beginnings requests caller one.lived caller.number s (before s) (book_at board s)
+            (subst (λ n. AreLogged n (before s) (book_at board s) (library_at caller.library.ends.seat s).items) seat
+            (leaves.logged s (seat_of caller) small (seat_there run.callers.items place caller found)));
+        reads = λ s lease some small here.
+            let popped = caller.library.ends.head.popped in
+            let in_order = beginnings s lease None popped served.popped.rest (subst (AreInOrder s lease None) (sym served.popped.is) (fed.in_order s lease)) in
+            let positions = positions_are polls_pop closed deeds_are_answered posts_are_sent no_gap beginnings requests caller one.lived s lease some small in_order in
+            elim (first_grant s lease popped in_order) [
+              | inl grant ↦ inr (record {
+                nr = grant.nr;
+                from = grant.from;
+                start = grant.start;
+                told = (All-contains (IsTold board strays caller.number) popped (notices.Granted grant.nr s lease grant.from grant.start) popped_told grant.has).0 here;
+                are = positions ∙ ap (λ from. numbers_from from (length (positions_kept s lease caller.calls.items))) grant.first;
+              })
+              | inr beside ↦ inl (none_given s lease caller.calls.items (handed_on polls_pop closed deeds_are_answered posts_are_sent no_gap beginnings requests caller one.lived (IsBeside s lease) beside))
+            ];
+        told = handed_on polls_pop closed deeds_are_answered posts_are_sent no_gap beginnings requests caller one.lived (IsTold board strays caller.number) popped_told;
+        given_back = all_given polls_pop closed deeds_are_answered posts_are_sent no_gap beginnings requests caller one.lived board
+            (λ s small. subst (λ n. LeasesStand (lines_of (book_at board s).entries) n (library_at caller.library.ends.seat s).leases) seat (leaves.leases s (seat_of caller) small (seat_there run.callers.items place caller found)));
+        replied = replied_to polls_pop closed deeds_are_answered posts_are_sent no_gap beginnings requests caller one.lived one.replied;
+        replies = λ s small. subst (λ n. AreRepliesTold n s (before s) (book_at board s).entries caller.library.ends.head.popped) (sym numbers.number)
+            (record {
+              rest = flat_map (reply_of s) served.popped.rest;
+              are = answered.told s small ∙ ap (λ replies. replies_told library s (before s) ++ replies)
+                  (ap (flat_map (reply_of s)) (sym served.popped.is) ∙ flat_map-append (reply_of s) caller.library.ends.head.popped served.popped.rest);
+            });
+      }

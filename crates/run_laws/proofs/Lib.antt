@@ -1,0 +1,14 @@
+mod Borne
+mod Calls
+mod Carried
+mod Given
+mod Grants
+mod Lived
+mod Numbers
+mod Places
+mod Settled
+mod Sides
+mod Starts
+mod Tables
+mod Wires
+mod Told

@@ -1,0 +1,101 @@
+-- What holds of a run between two lines of its script, and of the record that it leaves.
+use Rattle.std.specs.Prelude.{◌≡◌, ◌≢◌, ℕ, ◌+◌, ◌<◌, ◌⊎◌, List, [], length, map, slice_get, None, Some}
+use Rattle.std.specs.List.{Contains}
+use Rattle.engine_config.specs.Config.{dial_of, names_of}
+use Rattle.engine_config.specs.declared.config.Config.{Config}
+use Rattle.engine_end.specs.Records.{IsLeftBy}
+use Rattle.engine_laws.specs.Account.{IsAccountedFor}
+use Rattle.engine_start.specs.Starts.{configured_book}
+use Rattle.gate_io.specs.MemWire.{link_at}
+use Rattle.gate_io.specs.Wire.{Link}
+use Rattle.lease_core.specs.Lines.{lines_of}
+use Rattle.lease_core.specs.declared.entry.Entry.{Entry}
+use Rattle.lease_core.specs.declared.lease.Line.{Line}
+use Rattle.lease_desk.specs.declared.desk.LeaseDesk.{LeaseDesk}
+use Rattle.lease_words.specs.Leases.{Each, Stands}
+use Rattle.lease_words.specs.Views.{LibraryView, library_at}
+use Rattle.lease_words.specs.declared.view.LibraryLease.{LibraryLease}
+use Rattle.library_desk.specs.declared.desk.LibraryDesk.{LibraryDesk}
+use Rattle.library_laws.specs.Feeds.{AreFed}
+use Rattle.library_laws.specs.Replies.{AreAnswered}
+use Rattle.library_laws.specs.Sends.{AreLogged, AreTaken}
+use Rattle.run_report.specs.declared.records.RunRecord.{RunRecord}
+use Rattle.script_run.specs.declared.callers.Caller.{Caller}
+use Rattle.script_run.specs.declared.run.Run.{Run}
+use Rattle.script_run.specs.Means.{report_of, seat_of}
+use Rattle.session_core.specs.State.{State}
+use Rattle.switchboard.specs.Board.{Board, book_at, connection_at}
+use Rattle.switchboard.specs.Ready.{IsReady}
+use Rattle.text_laws.specs.Taken.{IsCutShort, TookTextOf, TookTheirTexts}
+
+-- the entries before a run: no session has one
+abbrev pub no_entries : ℕ → List Entry
+no_entries s = []
+
+-- the session machines with which a run of this configuration begins
+abbrev pub first_machines : Config → ℕ → State
+first_machines config s = (configured_book config.leases (names_of config s) (dial_of config s)).machine
+
+-- Up to a moment all that happened is accounted for. Sessions and connections are ready; each journal tells the acts of what came, each request was answered
+-- once, each lease was fed its messages in order, and each send that a log has was taken of its library's lane.
+pub record IsAccountedAt (before : ℕ → List Entry) (start : ℕ → State) (moment : ℕ) (d : LibraryDesk) : Type 0 where
+  pub ready : IsReady before d.desk.board
+  pub account : IsAccountedFor before start moment d.desk.board
+  pub answered : AreAnswered before d
+  pub fed : AreFed d
+  pub taken : AreTaken before d.desk
+
+-- a library has the number behind its place, and so has its seat
+pub record IsNumbered (place : ℕ) (caller : Caller) : Type 0 where
+  pub number : caller.number ≡ place + 1
+  pub seat : caller.library.ends.seat.knows.number ≡ place + 1
+
+-- each library is numbered, and there are as many as the engine's table is for
+pub record AreNumbered (run : Run) : Type 0 where
+  pub count : length run.callers.items ≡ run.engine.sessions.desk.seat.table.shape.libraries
+  pub each : (place : ℕ) (caller : Caller) → slice_get run.callers.items place ≡ Some caller → IsNumbered place caller
+
+-- A run is accounted for up to the moment of its last turn, and its connections that have ended took their texts.
+pub record IsAccountedRun (before : ℕ → List Entry) (start : ℕ → State) (run : Run) : Type 0 where
+  pub engine : IsAccountedAt before start run.engine.moment run.engine.sessions
+  pub texts : TookTheirTexts run.engine.sessions.desk.board (link_at run.wire)
+  pub libraries : AreNumbered run
+
+-- What a log has for a library's sends, behind the entries before, is all that the library's seat sent, each item's body once and in order.
+abbrev pub AllAreLogged : (ℕ → List Entry) → Board → List LibraryView → Type 0
+AllAreLogged before board seats =
+    (s : ℕ) (seat : LibraryView) → s < length board.sessions → Contains seats seat → AreLogged seat.knows.number (before s) (book_at board s) (library_at seat s).items
+
+-- each of these leases of a library stands in the lines of a journal, with the library's own count of sends and as it gave it back
+pub record LeasesStand (lines : List Line) (library : ℕ) (leases : List LibraryLease) : Type 0 where
+  pub base : ℕ
+  pub each : Each (Stands base lines library) leases
+
+-- and so do all that the libraries' seats had
+abbrev pub AllLeasesStand : Board → List LibraryView → Type 0
+AllLeasesStand board seats =
+    (s : ℕ) (seat : LibraryView) → s < length board.sessions → Contains seats seat → LeasesStand (lines_of (book_at board s).entries) seat.knows.number (library_at seat s).leases
+
+-- the sessions of a run, once each was gathered at its end
+abbrev pub gathered_of : Run → LeaseDesk → LibraryDesk
+gathered_of run gathered = record (run.engine.sessions) { desk = gathered }
+
+-- A connection that has ended took its outbound text, in the words of its session's journal, or its writing was cut short.
+abbrev pub TookTextOrCutShort : (ℕ → List Entry) → Board → (ℕ → Link) → ℕ → Type 0
+TookTextOrCutShort before board links k = TookTextOf before board k (connection_at board k).session ⊎ IsCutShort (links (connection_at board k).number) (connection_at board k)
+
+-- and so did each
+abbrev pub EndedTookTexts : (ℕ → List Entry) → Board → (ℕ → Link) → Type 0
+EndedTookTexts before board links = (k : ℕ) → k < length board.connections → (connection_at board k).cause ≢ None → TookTextOrCutShort before board links k
+
+-- What a run leaves is accounted for: it is left by sessions and connections that are, behind the last gathering, by which each log has all that the libraries sent.
+-- What a run leaves is accounted for: it is left by sessions and connections that are, behind the last gathering, by which each log has all that the libraries sent, and each
+-- journal all that they did by their leases.
+pub record LeavesAccounted (before : ℕ → List Entry) (start : ℕ → State) (run : Run) (left : RunRecord) : Type 0 where
+  pub gathered : LeaseDesk
+  pub accounted : IsAccountedAt before start run.engine.moment (gathered_of run gathered)
+  pub leaves : IsLeftBy gathered.board run.engine.sessions.strays.items run.engine.accepted left.engine.added left.engine
+  pub logged : AllAreLogged before gathered.board (map seat_of run.callers.items)
+  pub texts : EndedTookTexts before gathered.board (link_at run.wire)
+  pub leases : AllLeasesStand gathered.board (map seat_of run.callers.items)
+  pub libraries : left.libraries ≡ map report_of run.callers.items

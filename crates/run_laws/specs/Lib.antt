@@ -1,0 +1,5 @@
+pub mod Sides
+pub mod Accounted
+pub mod Lives
+pub mod Reports
+pub mod Records
