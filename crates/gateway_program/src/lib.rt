@@ -2,7 +2,7 @@
 //! name, and ends with its status.
 #![tactic(auto)]
 
-use gate_io::{FileSource, StdSink};
+use gate_io::{FileSource, MemSource, StdSink};
 use gateway_run::{Chosen, Status, WordsError, command_of, replay};
 use std::process::ExitCode;
 use std::{env, io};
@@ -28,14 +28,19 @@ fn words_of(rt: &HostRuntime) -> io::Result<Vec<String>> {
     Ok(args.collect(rt.alloc())?)
 }
 
-/// Carries out the command that the words give.
+/// Carries out the command that the words give. A drill has no script to read.
 fn run(rt: &HostRuntime, words: &[String]) -> Status {
     let alloc = rt.alloc();
+    let mut out = StdSink::new(*rt);
     match command_of(alloc, words) {
         Ok(Chosen::Replay { path }) => {
             let mut script = FileSource::new(*rt, path.into_inner());
-            let mut out = StdSink::new(*rt);
             let (status, _record) = replay(alloc, words, &mut script, &mut out);
+            status
+        }
+        Ok(Chosen::Drill { .. }) => {
+            let mut nothing = MemSource::new(Vec::new(alloc), Vec::new(alloc));
+            let (status, _record) = replay(alloc, words, &mut nothing, &mut out);
             status
         }
         Err(WordsError::OutOfMemory) => Status::OutOfMemory,

@@ -1,20 +1,2 @@
-pub mod ByPlace
-pub mod Digits
-pub mod Bodies
-pub mod Shares
-pub mod Kept
-pub mod Handled
-pub mod Finds
-pub mod Places
-pub mod Stepping
-pub mod TooLong
-pub mod Named
-pub mod SoundPhases
-pub mod SoundFollows
-pub mod SoundJournals
-pub mod SoundWritten
-pub mod SoundBrief
-pub mod SoundPasses
-pub mod SoundLeaves
-pub mod SoundSettles
-pub mod Sound
+mod Ending
+mod TooLong

@@ -1,17 +1,2 @@
-pub mod Serving
-pub mod Words
-pub mod ReportLines
-pub mod Report
-pub mod Session
-pub mod Outbound
-pub mod Handling
-pub mod Turn
-pub mod Engines
-pub mod Form
-pub mod Meaning
-pub mod Forms
-pub mod Runs
-pub mod Headline
-pub mod Carried
 pub mod Codes
 pub mod Outcome

@@ -1,73 +1,96 @@
 -- How a replay ends.
 use Rattle.std.specs.Prelude.{◌≡◌, ◌⊎◌, ℕ, false, List, [], Option, None, Some, IfSome, Ok, Err}
+use Rattle.std.specs.List.{All}
+use Rattle.command_words.specs.declared.words.Chosen.{Chosen}
+use Rattle.command_words.specs.declared.words.Chosen.TheVariants as chosen
+use Rattle.drill_maker.specs.Drill.{drill_of}
+use Rattle.engine_end.specs.Records.{HasLawfulJournal}
 use Rattle.gate_io.specs.Counts.{HasRisen}
 use Rattle.gate_io.specs.Sink.{HasTaken, HasTakenPrefix}
-use Rattle.script_text.specs.Meaning.{script_of}
-use Rattle.script_text.specs.declared.kinds.ScriptError.TheVariants.{Fault}
-use Rattle.gateway_run.specs.declared.records.RunRecord.{RunRecord}
-use Rattle.script_text.specs.declared.steps.Script.{Script}
+use Rattle.gateway_run.specs.declared.replaying.Printed.{Printed}
+use Rattle.gateway_run.specs.declared.replaying.Printed.TheVariants as printed
 use Rattle.gateway_run.specs.declared.statuses.Status.{Status}
 use Rattle.gateway_run.specs.declared.statuses.Status.TheVariants as status
-use Rattle.gateway_run.specs.Form.{unbuilt_line}
-use Rattle.gateway_run.specs.Meaning.{meaning}
-use Rattle.gateway_run.specs.Words.{HasCommand}
+use Rattle.run_laws.specs.Records.{IsAccountedRecord}
+use Rattle.run_report.specs.Report.{report_of}
+use Rattle.run_report.specs.Summary.{summary_of}
+use Rattle.run_report.specs.declared.records.RunRecord.{RunRecord}
+use Rattle.script_run.specs.Means.{Means}
+use Rattle.script_text.specs.Meaning.{script_of}
+use Rattle.script_text.specs.declared.kinds.ScriptError.TheVariants.{Fault}
+use Rattle.script_text.specs.declared.steps.Script.{Script}
 
--- the text is this script, each line of which is built
-pub record IsBuiltScript (text : List ℕ) (script : Script) : Type 0 where
-  pub said : script_of false text ≡ Ok script
-  pub built : unbuilt_line script ≡ None
+-- the text is this script, where it is told
+abbrev pub IsTextOf : Option (List ℕ) → Script → Type 0
+IsTextOf left script = IfSome left (λ text. script_of false text ≡ Ok script)
 
--- the text is a script whose first line that isn't built is this one
-pub record IsUnbuiltAt (line : ℕ) (text : List ℕ) : Type 0 where
-  pub script : Script
-  pub said : script_of false text ≡ Ok script
-  pub unbuilt : unbuilt_line script ≡ Some line
+-- The script that a command has carried out: that of the source's text, or the drill of so many rounds.
+abbrev pub IsScriptOf : Chosen → Option (List ℕ) → Script → Type 0
+IsScriptOf (chosen.Replay path) left script = IsTextOf left script
+IsScriptOf (chosen.Drill n) left script = script ≡ drill_of n
 
--- what a run leaves of which nothing was carried out
+-- what is written of a record: its report, or the summary of so many rounds
+abbrev pub printed_text : Printed → RunRecord → List ℕ
+printed_text printed.Report run = report_of run
+printed_text (printed.Summary n) run = summary_of n run
+
+-- and so by a command
+abbrev pub text_for : Chosen → RunRecord → List ℕ
+text_for (chosen.Replay path) run = report_of run
+text_for (chosen.Drill n) run = summary_of n run
+
+-- what a run leaves that did not begin
 abbrev pub no_run : RunRecord
-no_run = record { engine = record { sessions = []; connections = []; strays = [] }; libraries = [] }
+no_run = record { engine = record { sessions = []; connections = []; strays = []; accepted = 0; added = [] }; libraries = [] }
 
--- the record is what a script means: that of the text, where the source tells it
-pub record IsCarriedOut (left : Option (List ℕ)) (run : RunRecord) : Type 0 where
+-- The record is what a script means that is one of these, and all that it tells is accounted for.
+pub record IsCarriedOut (Is : Script → Type 0) (run : RunRecord) : Type 0 where
   pub script : Script
-  pub text : IfSome left (λ text. IsBuiltScript text script)
-  pub built : unbuilt_line script ≡ None
-  pub meant : run ≡ meaning script
+  pub is : Is script
+  pub meant : Means script run
+  pub accounted : IsAccountedRecord script run
 
--- what is left of a replay that ends so
-abbrev pub Leaves : Option (List ℕ) → Status → RunRecord → Type 0
-Leaves left status.Ok run = IsCarriedOut left run
-Leaves left status.WriteFault run = IsCarriedOut left run
-Leaves left status.OutOfMemory run = (run ≡ no_run) ⊎ IsCarriedOut left run
-Leaves left _ run = run ≡ no_run
+-- What a replay leaves that ends so: on Ok, and where its report can't be written, what the script means. Without memory each journal is lawful. Else nothing was carried out.
+abbrev pub Leaves : (Script → Type 0) → Status → RunRecord → Type 0
+Leaves Is status.Ok run = IsCarriedOut Is run
+Leaves Is status.WriteFault run = IsCarriedOut Is run
+Leaves Is status.OutOfMemory run = All HasLawfulJournal run.engine.sessions
+Leaves Is status.Usage run = run ≡ no_run
+Leaves Is status.ReadFault run = run ≡ no_run
+Leaves Is (status.ScriptFault line kind) run = run ≡ no_run
 
--- why no script was carried out: of the words, of what the source tells, and of its count of faults before and behind
-abbrev pub Refuses : List (List ℕ) → Option (List ℕ) → ℕ → ℕ → Status → Type 0
-Refuses words left old new status.Usage = HasCommand words → ⊥
-Refuses words left old new status.ReadFault = HasCommand words × HasRisen old new
-Refuses words left old new (status.ScriptFault line kind) = HasCommand words × IfSome left (λ text. script_of false text ≡ Err (Fault line kind))
-Refuses words left old new (status.Unbuilt line) = HasCommand words × IfSome left (IsUnbuiltAt line)
-Refuses words left old new status.OutOfMemory = HasCommand words
-Refuses words left old new status.Ok = ⊥
-Refuses words left old new status.WriteFault = ⊥
-
--- the same of a text alone
-abbrev pub RefusesText : List ℕ → Status → Type 0
-RefusesText text (status.ScriptFault line kind) = script_of false text ≡ Err (Fault line kind)
-RefusesText text (status.Unbuilt line) = IsUnbuiltAt line text
-RefusesText text status.OutOfMemory = Unit {0}
-RefusesText text _ = ⊥
+-- why no script was read: by what the source tells, and by its count of faults before and behind
+abbrev pub RefusesSource : Option (List ℕ) → ℕ → ℕ → Status → Type 0
+RefusesSource left old new status.ReadFault = HasRisen old new
+RefusesSource left old new (status.ScriptFault line kind) = IfSome left (λ text. script_of false text ≡ Err (Fault line kind))
+RefusesSource left old new status.OutOfMemory = Unit {0}
+RefusesSource left old new status.Ok = ⊥
+RefusesSource left old new status.WriteFault = ⊥
+RefusesSource left old new status.Usage = ⊥
 
 -- a replay that ends so wrote nothing
 abbrev pub WritesNothing : Status → Type 0
 WritesNothing status.Ok = ⊥
 WritesNothing status.WriteFault = ⊥
-WritesNothing _ = Unit {0}
+WritesNothing status.OutOfMemory = Unit {0}
+WritesNothing status.Usage = Unit {0}
+WritesNothing status.ReadFault = Unit {0}
+WritesNothing (status.ScriptFault line kind) = Unit {0}
 
--- What became of a report: of its text, of what the sink tells before and behind, of whether its count of faults rose
--- and whether it is as it was.
-abbrev pub Reports : List ℕ → Option (List ℕ) → Option (List ℕ) → Type 0 → Type 0 → Status → Type 0
-Reports text old new risen same status.Ok = HasTaken old text new
-Reports text old new risen same status.WriteFault = HasTakenPrefix old text new × risen
-Reports text old new risen same status.OutOfMemory = same
-Reports text old new risen same _ = ⊥
+-- What became of a text: of what the sink tells before and behind, of whether its count of faults rose and whether it is as it was.
+abbrev pub Writes : List ℕ → Option (List ℕ) → Option (List ℕ) → Type 0 → Type 0 → Status → Type 0
+Writes text old new risen same status.Ok = HasTaken old text new
+Writes text old new risen same status.WriteFault = HasTakenPrefix old text new × risen
+Writes text old new risen same status.OutOfMemory = same
+Writes text old new risen same status.Usage = ⊥
+Writes text old new risen same status.ReadFault = ⊥
+Writes text old new risen same (status.ScriptFault line kind) = ⊥
+
+-- How it ended: what became of the text, or that nothing was written, and why nothing was to be.
+abbrev pub EndsSo : (Status → Type 0) → List ℕ → Option (List ℕ) → Option (List ℕ) → Type 0 → Type 0 → Status → Type 0
+EndsSo refuses text old new risen same status.Ok = HasTaken old text new
+EndsSo refuses text old new risen same status.WriteFault = HasTakenPrefix old text new × risen
+EndsSo refuses text old new risen same status.OutOfMemory = same
+EndsSo refuses text old new risen same status.Usage = ⊥
+EndsSo refuses text old new risen same status.ReadFault = refuses status.ReadFault × same
+EndsSo refuses text old new risen same (status.ScriptFault line kind) = refuses (status.ScriptFault line kind) × same

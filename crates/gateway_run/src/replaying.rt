@@ -1,88 +1,145 @@
-//! The top call that carries out a recorded script on one thread.
+//! The top call that carries out a recorded script, or a drill, on one thread.
 
-ghost use Rattle.std.specs.Prelude.{◌≡◌, ◌⊎◌, ℕ, false, All, Err, length, IfOk, IfErr, IfSome, OnOk, map, string_bytes};
+ghost use Rattle.std.specs.Prelude.{◌≡◌, ◌⊎◌, ◌≤◌, ℕ, false, Err, Ok, IfErr, IfOk, IfSome, map, string_bytes};
+ghost use Rattle.std.specs.List.{All};
+ghost use Rattle.command_words.specs.Words.{Gives, HasCommand};
+ghost use Rattle.command_words.specs.declared.words.Chosen.{Chosen as TheChosen};
+ghost use Rattle.drill_maker.specs.Drill.{drill_of};
+ghost use Rattle.drill_maker.specs.declared.limits.TheConstants.{MOST_ROUNDS};
+ghost use Rattle.engine_end.specs.Records.{HasLawfulJournal};
 ghost use Rattle.gate_io.specs.Counts.{HasRisen};
-ghost use Rattle.gate_io.specs.Source.{GaveWithin, IsAllOf};
 ghost use Rattle.gate_io.specs.Sink.{HasTaken, HasTakenPrefix};
-ghost use Rattle.script_text.specs.declared.kinds.ScriptKind.{ScriptKind};
-ghost use Rattle.script_text.specs.declared.steps.Script.{Script};
-ghost use Rattle.script_text.specs.Meaning.{script_of};
+ghost use Rattle.gate_io.specs.Source.{GaveWithin, IsAllOf};
+ghost use Rattle.gateway_run.specs.Outcome.{EndsSo, IsScriptOf, IsTextOf, Leaves, RefusesSource, Writes, WritesNothing, no_run, printed_text, text_for};
+ghost use Rattle.run_report.specs.Report.{report_of};
+ghost use Rattle.run_report.specs.Summary.{summary_of};
 ghost use Rattle.script_text.specs.Lawful.{IsLawful};
-ghost use Rattle.gateway_run.specs.Report.{report_of};
-ghost use Rattle.gateway_run.specs.Headline.{AreAdjoining, DeedsAreAsked, IsBoundWhileStanding, IsGarbledCount, IsRun, IsSound, TookOutText, names_of};
-ghost use Rattle.gateway_run.specs.Outcome.{IsBuiltScript, IsCarriedOut, IsUnbuiltAt, Leaves, Refuses, RefusesText, Reports, WritesNothing, no_run};
-ghost use Rattle.gateway_run.specs.Words.{HasCommand};
+ghost use Rattle.script_text.specs.Meaning.{script_of};
+ghost use Rattle.script_text.specs.declared.kinds.ScriptKind.{ScriptKind};
+ghost use Rattle.script_text.specs.declared.steps.Script.{Script as TheScript};
 
-use crate::carrying::carry_out;
-use crate::form::unbuilt_line;
-use crate::laws::meanings_are_sound;
-use crate::records::{EngineRecord, RunRecord};
-use crate::report::report_text;
 use crate::statuses::Status;
-use crate::words::{WordsError, command_of};
+use command_words::laws::words_give_one;
+use command_words::{Chosen, WordsError, command_of};
+use drill_maker::drill;
+use drill_maker::laws::drills_are_lawful;
+use engine_end::EngineRecord;
 use gate_io::{NoMemory, ReadAll, Rows, Sink, Source, read_all, write_all};
+use run_laws::laws::scripts_are_accounted_for;
+use run_report::{RunRecord, report_text, summary_text};
+use script_run::carry_out;
 use script_text::{LONGEST_SCRIPT, Script, ScriptError, ScriptKind, read_script};
 use std::alloc::Global;
 
-/// Carries out the script that the words name and writes the report of the run.
+/// What is written of a run.
+#[derive(Clone, Copy, Debug)]
+pub(crate) enum Printed {
+    /// Its whole report.
+    Report,
+    /// The summary of a drill of `n` rounds.
+    Summary { n: u32 },
+}
+
+/// Carries out the script that the words name, or the drill of so many rounds, and writes the report of the
+/// run, or the summary. A drill doesn't read the source.
 ///
-/// Statuses are tested in the order `Usage`, `ReadFault`, `ScriptFault`, `Unbuilt`, `WriteFault`.
-/// Where the source tells the bytes that are left, they are the script. The record is empty where
-/// no script was carried out.
+/// Statuses are tested in the order `Usage`, `ReadFault`, `ScriptFault`, `WriteFault`. Where the source
+/// tells the bytes that are left, they are the script. The record is empty where no run began; where memory
+/// was wanting later it is what there was.
 pub fn replay<So: Source, Si: Sink>(
     alloc: Global,
     words: &[String],
     script: &mut So,
     out: &mut Si,
 ) -> (Status, RunRecord)
-    // The record is what the script means.
-    ensures meant { Leaves (So.left script.old) result.0 result.1 }
-    // The sink took the report of that record.
-    ensures reported { result.0 ≡ Status.Ok → HasTaken (Si.held out.old) (report_of result.1) (Si.held out.new) }
+    // The record is what the script means, and all that it tells is accounted for.
+    ensures meant { (command : TheChosen) → Gives (map string_bytes words.now) command → Leaves (IsScriptOf command (So.left script.old)) result.0 result.1 }
+    // The sink took the report of that record, or the summary.
+    ensures reported { (command : TheChosen) → Gives (map string_bytes words.now) command → result.0 ≡ Status.Ok → HasTaken (Si.held out.old) (text_for command result.1) (Si.held out.new) }
     ensures usage { result.0 ≡ Status.Usage → HasCommand (map string_bytes words.now) → ⊥ }
     ensures no_command { (HasCommand (map string_bytes words.now) → ⊥) → result.0 ≡ Status.Usage }
+    ensures no_run { result.0 ≡ Status.Usage → result.1 ≡ no_run }
     ensures usage_untouched { result.0 ≡ Status.Usage → script.new ≡ script.old }
+    ensures drill_untouched { (n : ℕ) → Gives (map string_bytes words.now) (Chosen.Drill n) → script.new ≡ script.old }
     ensures read_fault { result.0 ≡ Status.ReadFault → HasRisen (So.faults script.old) (So.faults script.new) }
     // No fault is told once the script is known to be too long.
     ensures read_fault_within { result.0 ≡ Status.ReadFault → GaveWithin (So.left script.old) LONGEST_SCRIPT (So.left script.new) }
     ensures script_fault { (line : ℕ) (kind : ScriptKind) → result.0 ≡ Status.ScriptFault line kind
         → IfSome (So.left script.old) (λ text. script_of false text ≡ Err (ScriptError.Fault line kind)) }
-    ensures unbuilt { (line : ℕ) → result.0 ≡ Status.Unbuilt line → IfSome (So.left script.old) (IsUnbuiltAt line) }
     ensures write_fault { result.0 ≡ Status.WriteFault → HasRisen (Si.faults out.old) (Si.faults out.new) }
-    // A beginning of the report was taken.
-    ensures cut_off { result.0 ≡ Status.WriteFault → HasTakenPrefix (Si.held out.old) (report_of result.1) (Si.held out.new) }
+    // A beginning of it was taken.
+    ensures cut_off { (command : TheChosen) → Gives (map string_bytes words.now) command → result.0 ≡ Status.WriteFault → HasTakenPrefix (Si.held out.old) (text_for command result.1) (Si.held out.new) }
     ensures nothing_written { WritesNothing result.0 → out.new ≡ out.old }
-    // The journal of each session is lawful.
-    ensures journals { All (λ session. IsRun session.entries) (result.1).engine.sessions }
-    // Its holdings cut the inbound log into adjoining intervals.
-    ensures holdings { All (λ session. AreAdjoining session.holdings (length session.inbound)) (result.1).engine.sessions }
-    // What the journal says that the session did is what the connection's bytes ask for, however they were cut.
-    ensures deeds { DeedsAreAsked (result.1).engine.sessions (result.1).engine.connections }
-    // The garbled bytes are those of the garbled pieces before the one that ended the connection.
-    ensures garbled { All (IsGarbledCount (names_of (result.1).engine.sessions)) (result.1).engine.connections }
-    // What a connection took is its outbound text.
-    ensures outbound { All (TookOutText (result.1).engine.sessions) (result.1).engine.connections }
-    // The session is bound to a connection just while that stands.
-    ensures bound { IsBoundWhileStanding (result.1).engine.sessions (result.1).engine.connections }
+    // The journal of each session is lawful, also without memory.
+    ensures journals { All HasLawfulJournal result.1.engine.sessions }
     // Where nothing stands in the way, the run is whole, unless memory is wanting.
-    ensures complete { IfSome (So.left script.old) (λ text. (said : Script) → HasCommand (map string_bytes words.now) → IsBuiltScript text said
+    ensures complete { IfSome (So.left script.old) (λ text. (said : TheScript) → HasCommand (map string_bytes words.now) → script_of false text ≡ Ok said
         → (HasRisen (So.faults script.old) (So.faults script.new) → ⊥) → (HasRisen (Si.faults out.old) (Si.faults out.new) → ⊥)
         → (result.0 ≡ Status.Ok) ⊎ (result.0 ≡ Status.OutOfMemory)) }
+    ensures drill_complete { (n : ℕ) → Gives (map string_bytes words.now) (Chosen.Drill n) → (HasRisen (Si.faults out.old) (Si.faults out.new) → ⊥)
+        → (result.0 ≡ Status.Ok) ⊎ (result.0 ≡ Status.OutOfMemory) }
 {
-    match run_script(alloc, words, script) {
-        Ok(run) => {
-            let status = write_report(alloc, &run, out);
-            (status, run)
-        }
-        Err(status) => (status, empty_record(alloc)),
+    words_give_one();
+    match command_of(alloc, words) {
+        Ok(Chosen::Replay { .. }) => replay_script(alloc, script, out),
+        Ok(Chosen::Drill { n }) => replay_drill(alloc, n, out),
+        Err(WordsError::Usage) => (Status::Usage, no_record(alloc)),
+        Err(WordsError::OutOfMemory) => (Status::OutOfMemory, no_record(alloc)),
     }
 }
 
-/// Writes the report of a record.
-fn write_report<Si: Sink>(alloc: Global, run: &RunRecord, out: &mut Si) -> Status
-    ensures { Reports (report_of run.now) (Si.held out.old) (Si.held out.new) (HasRisen (Si.faults out.old) (Si.faults out.new)) (out.new ≡ out.old) result }
+/// Carries out the script that a source has, and writes the report.
+fn replay_script<So: Source, Si: Sink>(
+    alloc: Global,
+    source: &mut So,
+    out: &mut Si,
+) -> (Status, RunRecord)
+    ensures meant { Leaves (IsTextOf (So.left source.old)) result.0 result.1 }
+    ensures ends { EndsSo (RefusesSource (So.left source.old) (So.faults source.old) (So.faults source.new)) (report_of result.1) (Si.held out.old) (Si.held out.new) (HasRisen (Si.faults out.old) (Si.faults out.new)) (out.new ≡ out.old) result.0 }
+    ensures read_fault_within { result.0 ≡ Status.ReadFault → GaveWithin (So.left source.old) LONGEST_SCRIPT (So.left source.new) }
+    ensures journals { All HasLawfulJournal result.1.engine.sessions }
 {
-    match report_text(alloc, run) {
+    let script = match script_in(alloc, source) {
+        Ok(script) => script,
+        Err(status) => return (status, no_record(alloc)),
+    };
+    scripts_are_accounted_for();
+    match carry_out(alloc, script) {
+        Ok(run) => {
+            let status = write(alloc, &run, Printed::Report, out);
+            (status, run)
+        }
+        Err((NoMemory::OutOfMemory, run)) => (Status::OutOfMemory, run),
+    }
+}
+
+/// Carries out the drill of so many rounds, and writes the summary.
+fn replay_drill<Si: Sink>(alloc: Global, n: u32, out: &mut Si) -> (Status, RunRecord)
+    requires rounds { (1 ≤ n) × (n ≤ MOST_ROUNDS) }
+    ensures meant { Leaves (λ script. script ≡ drill_of n) result.0 result.1 }
+    ensures ends { EndsSo (λ _. ⊥) (summary_of n result.1) (Si.held out.old) (Si.held out.new) (HasRisen (Si.faults out.old) (Si.faults out.new)) (out.new ≡ out.old) result.0 }
+    ensures journals { All HasLawfulJournal result.1.engine.sessions }
+{
+    drills_are_lawful();
+    scripts_are_accounted_for();
+    let script = match drill(alloc, n) {
+        Ok(script) => script,
+        Err(NoMemory::OutOfMemory) => return (Status::OutOfMemory, no_record(alloc)),
+    };
+    match carry_out(alloc, script) {
+        Ok(run) => {
+            let status = write(alloc, &run, Printed::Summary { n }, out);
+            (status, run)
+        }
+        Err((NoMemory::OutOfMemory, run)) => (Status::OutOfMemory, run),
+    }
+}
+
+/// Writes the report of a record, or its summary.
+fn write<Si: Sink>(alloc: Global, run: &RunRecord, print: Printed, out: &mut Si) -> Status
+    ensures { Writes (printed_text print run.now) (Si.held out.old) (Si.held out.new) (HasRisen (Si.faults out.old) (Si.faults out.new)) (out.new ≡ out.old) result }
+{
+    match print_text(alloc, run, print) {
         Err(NoMemory::OutOfMemory) => Status::OutOfMemory,
         Ok(text) => match write_all(out, text.as_slice()) {
             Ok(()) => Status::Ok,
@@ -91,56 +148,37 @@ fn write_report<Si: Sink>(alloc: Global, run: &RunRecord, out: &mut Si) -> Statu
     }
 }
 
-/// The record of a run in which nothing was carried out.
-fn empty_record(alloc: Global) -> RunRecord
-    ensures none { result ≡ no_run }
-    ensures sound { IsSound result.engine }
+/// The report of a record, or its summary.
+fn print_text(alloc: Global, run: &RunRecord, print: Printed) -> Result<Vec<u8>, NoMemory>
+    ensures { IfOk result (λ text. text.items ≡ printed_text print run.now) }
 {
-    RunRecord {
-        engine: EngineRecord {
-            sessions: Rows::of(Vec::new(alloc)),
-            connections: Rows::of(Vec::new(alloc)),
-            strays: Rows::of(Vec::new(alloc)),
-        },
-        libraries: Rows::of(Vec::new(alloc)),
+    match print {
+        Printed::Report => report_text(alloc, run),
+        Printed::Summary { n } => summary_text(alloc, n, run),
     }
 }
 
-/// What the run of the script leaves, or the status in its place.
-fn run_script<So: Source>(
-    alloc: Global,
-    words: &[String],
-    source: &mut So,
-) -> Result<RunRecord, Status>
-    ensures carried { IfOk result (IsCarriedOut (So.left source.old)) }
-    ensures sound { IfOk result (λ run. IsSound run.engine) }
-    ensures command { OnOk result (HasCommand (map string_bytes words.now)) }
-    ensures refused { IfErr result (Refuses (map string_bytes words.now) (So.left source.old) (So.faults source.old) (So.faults source.new)) }
-    ensures usage_untouched { IfErr result (λ status. status ≡ Status.Usage → source.new ≡ source.old) }
+/// The script that a source has.
+fn script_in<So: Source>(alloc: Global, source: &mut So) -> Result<Script, Status>
+    ensures script { IfOk result (IsTextOf (So.left source.old)) }
+    ensures lawful { IfOk result (IsLawful false) }
+    ensures refused { IfErr result (RefusesSource (So.left source.old) (So.faults source.old) (So.faults source.new)) }
     ensures read_fault_within { IfErr result (λ status. status ≡ Status.ReadFault → GaveWithin (So.left source.old) LONGEST_SCRIPT (So.left source.new)) }
 {
-    let text = text_of(alloc, words, source)?;
-    let script = script_in(alloc, text.as_slice())?;
-    meanings_are_sound();
-    match carry_out(alloc, &script) {
-        Ok(run) => Ok(run),
-        Err(NoMemory::OutOfMemory) => Err(Status::OutOfMemory),
+    let text = text_of(alloc, source)?;
+    match read_script(alloc, text.as_slice(), false) {
+        Ok(script) => Ok(script),
+        Err(ScriptError::OutOfMemory) => Err(Status::OutOfMemory),
+        Err(ScriptError::Fault { line, kind }) => Err(Status::ScriptFault { line, kind }),
     }
 }
 
-/// The bytes of the script, where the words give a command.
-fn text_of<So: Source>(alloc: Global, words: &[String], source: &mut So) -> Result<Vec<u8>, Status>
+/// The bytes of the script.
+fn text_of<So: Source>(alloc: Global, source: &mut So) -> Result<Vec<u8>, Status>
     ensures all { IfOk result (λ text. IsAllOf (So.left source.old) text.items) }
-    ensures command { OnOk result (HasCommand (map string_bytes words.now)) }
-    ensures refused { IfErr result (Refuses (map string_bytes words.now) (So.left source.old) (So.faults source.old) (So.faults source.new)) }
-    ensures usage_untouched { IfErr result (λ status. status ≡ Status.Usage → source.new ≡ source.old) }
+    ensures refused { IfErr result (RefusesSource (So.left source.old) (So.faults source.old) (So.faults source.new)) }
     ensures read_fault_within { IfErr result (λ status. status ≡ Status.ReadFault → GaveWithin (So.left source.old) LONGEST_SCRIPT (So.left source.new)) }
 {
-    match command_of(alloc, words) {
-        Ok(_) => {}
-        Err(WordsError::OutOfMemory) => return Err(Status::OutOfMemory),
-        Err(WordsError::Usage) => return Err(Status::Usage),
-    }
     match read_all(alloc, source, LONGEST_SCRIPT) {
         Ok(text) => Ok(text),
         Err(ReadAll::OutOfMemory) => Err(Status::OutOfMemory),
@@ -152,20 +190,19 @@ fn text_of<So: Source>(alloc: Global, words: &[String], source: &mut So) -> Resu
     }
 }
 
-/// The script that a text is, each line of which is built.
-fn script_in(alloc: Global, text: &[u8]) -> Result<Script, Status>
-    ensures script { IfOk result (IsBuiltScript text.now) }
-    ensures lawful { IfOk result (IsLawful false) }
-    ensures refused { IfErr result (RefusesText text.now) }
+/// The record of a run that didn't begin.
+fn no_record(alloc: Global) -> RunRecord
+    ensures none { result ≡ no_run }
+    ensures journals { All HasLawfulJournal result.engine.sessions }
 {
-    let script = match read_script(alloc, text, false) {
-        Ok(script) => script,
-        Err(ScriptError::OutOfMemory) => return Err(Status::OutOfMemory),
-        Err(ScriptError::Fault { line, kind }) => return Err(Status::ScriptFault { line, kind }),
-    };
-    match unbuilt_line(alloc, &script) {
-        Ok(None) => Ok(script),
-        Ok(Some(line)) => Err(Status::Unbuilt { line }),
-        Err(NoMemory::OutOfMemory) => Err(Status::OutOfMemory),
+    RunRecord {
+        engine: EngineRecord {
+            sessions: Rows::of(Vec::new(alloc)),
+            connections: Rows::of(Vec::new(alloc)),
+            strays: Rows::of(Vec::new(alloc)),
+            accepted: 0,
+            added: Rows::of(Vec::new(alloc)),
+        },
+        libraries: Rows::of(Vec::new(alloc)),
     }
 }

@@ -7,7 +7,7 @@ use std::fmt;
 /// How a top call ended.
 #[derive(Clone, Copy, Debug, PartialEq, Eq)]
 pub enum Status {
-    /// Every step was carried out and the report was written.
+    /// Every step was carried out, and the report or the summary was written.
     Ok,
     /// Memory was wanting. Nothing was written.
     OutOfMemory,
@@ -15,13 +15,11 @@ pub enum Status {
     Usage,
     /// The script can't be read.
     ReadFault,
-    /// The report can't be written whole. A beginning of it was.
+    /// It can't be written whole. A beginning of it was.
     WriteFault,
     /// The script is outside the grammar: its first faulty line, from 1, and the fault; line 0 where
     /// the script as a whole is too long.
     ScriptFault { line: u32, kind: ScriptKind },
-    /// The script's first line that isn't built yet, from 1.
-    Unbuilt { line: u32 },
 }
 
 impl Status {
@@ -36,7 +34,6 @@ impl Status {
             Status::ScriptFault { .. } => 3,
             Status::ReadFault => 4,
             Status::WriteFault => 5,
-            Status::Unbuilt { .. } => 8,
         }
     }
 }
@@ -56,7 +53,6 @@ impl fmt::Display for Status {
             Status::ReadFault => write!(f, "fixgate: cannot read the script"),
             Status::WriteFault => write!(f, "fixgate: cannot write the report"),
             Status::ScriptFault { line, kind } => write!(f, "fixgate: script line {line}: {kind}"),
-            Status::Unbuilt { line } => write!(f, "fixgate: line {line} not built"),
         }
     }
 }

@@ -59,6 +59,33 @@ fn small_scripts(rt: HostRuntime) -> Result<(), Fail> {
     Ok(())
 }
 
+// Of every kind of line some, each script with the connections of its report.
+#[test]
+fn scripts_of_every_line(rt: HostRuntime) -> Result<(), Fail> {
+    let alloc = rt.alloc();
+    let cases = [
+        "session GATE BUYER\n\nsession GATE DESK\nconnect\nconnect\n",
+        "connect\n# a comment\nconnect\n",
+        "connect\nat 20260105-09:30:00\n",
+        "connect\nbytes 0 8=\n",
+        "connect\nturn\nfailread 0\nfailwrite 0 3\n",
+        "connect\nblock 0 10\nunblock 0\n",
+        "libraries 1\nlib 1 poll\nlib 1 beat\nlib 1 request 0 0\nlib 1 send 0 35=8|\nlib 1 release 0\n",
+        "libraries 1\nsession GATE BUYER\ndial GATE HUB hub:1 30 1000\ntake\nturn\n",
+        "turn\ntake\nfinish 1024\n",
+        "connect\nframe 0 35=A|49=BUYER|56=GATE|34=1|98=0|108=30|\nturn\nturn\n",
+        "session GATE BUYER\nconnect\nframe 0 35=A|49=BUYER|56=GATE|34=1|98=0|108=30|\nframe 0 35=D|49=BUYER|56=GATE|34=1|11=A1|\nturn\nturn\n",
+    ];
+    for script in cases {
+        let script = Vec::from_slice(alloc, script.as_bytes())?;
+        let (status, written) = replayed(alloc, script, None, 8192, None)?;
+        assert_eq!(rt; status, Status::Ok);
+        assert!(rt; written.starts_with(b"fixgate report 1\n"));
+        assert!(rt; written.ends_with(b"end\n"));
+    }
+    Ok(())
+}
+
 /// A script whose second frame has so many `x` in field 58, and twenty turns.
 fn long_script(alloc: Global, count: usize) -> Result<Vec<u8>, Fail> {
     let mut script = Vec::from_slice(

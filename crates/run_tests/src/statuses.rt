@@ -44,7 +44,6 @@ fn lines_and_codes(rt: HostRuntime) -> Result<(), Fail> {
         ),
         (Status::ReadFault, 4, "fixgate: cannot read the script"),
         (Status::WriteFault, 5, "fixgate: cannot write the report"),
-        (Status::Unbuilt { line: 7 }, 8, "fixgate: line 7 not built"),
     ];
     for (status, code, line) in cases {
         assert_eq!(rt; status.code(), code);
