@@ -1,10 +1,12 @@
 #!/usr/bin/env python3
-"""How fast `fixgate replay` carries out a script of one connection, as ratios to a plain C program.
+"""How fast `fixgate replay` carries out large scripts, as ratios to a plain C program.
 
-Makes a script of nearly 16 MiB and one with a tenth of its messages, replays each three times, and
-prints messages and bytes a second beside the time that bench/scan.c takes to read the same file, find
-the fields of its frames and add up every byte. The last ratio is that of the two scripts' times: near
-ten where the time is linear. Nothing depends on the numbers but the reader.
+Three kinds of scripts of nearly 16 MiB, and each with a tenth of its messages: the orders of one session,
+orders of 64 sessions in turn, and a library's calls (it requests a session, polls what came, sends a report
+for each order, and gives the session back). Both programs replay each script by turns; the times are the
+least of five. bench/plain_replay.c does the same work in plain C: it splits, frames, cuts, checks, keeps, and
+writes as much, and is checked to write about as many bytes. The last ratio of a kind is that of the two scripts'
+times: near ten where the time is linear. Nothing depends on the numbers but the reader.
 """
 import os
 import subprocess
@@ -19,60 +21,97 @@ PROGRAM = os.path.join(ROOT, "crates", "gateway_cli", "out", "gateway_cli")
 STAMP = "20260105-09:30:00.000"
 MOST = 16_777_216
 READ = 4096
+SESSIONS = 64
+# The orders that a library answers in one lease: no more than its ring of notices holds beside the grant.
+ROUND = 200
 
 
-def message(kind, number, rest):
-    return f"35={kind}|49=BUYER|56=GATE|34={number}|52={STAMP}|{rest}"
+def message(kind, them, number, rest):
+    return f"35={kind}|49={them}|56=GATE|34={number}|52={STAMP}|{rest}"
 
 
-def script(messages):
-    bodies = [message("A", 1, "98=0|108=30|")]
-    bodies += [
-        message("D", n, f"11=ORDER{n}|55=ACME|54=1|38=100|40=2|44=101.25|")
-        for n in range(2, messages + 1)
-    ]
-    taken = sum(len(body) + len(f"8=FIX.4.4|9={len(body)}|10=000|") for body in bodies)
+def logon(them):
+    return message("A", them, 1, "98=0|108=30|")
+
+
+def order(them, number):
+    return message("D", them, number, f"11=ORDER{number}|55=ACME|54=1|38=100|40=2|44=101.25|")
+
+
+def frame_length(body):
+    return len(body) + len(f"8=FIX.4.4|9={len(body)}|10=000|")
+
+
+def one_session(orders):
+    bodies = [logon("BUYER")] + [order("BUYER", n) for n in range(2, orders + 2)]
     lines = ["session GATE BUYER", "libraries 1", f"at {STAMP}", "connect"]
-    lines += ["frame 0 " + body for body in bodies]
-    lines += ["finish 0"] + ["turn"] * (taken // READ + 2)
-    return "\n".join(lines) + "\n"
+    lines += ["frame 0 " + body for body in bodies] + ["finish 0"]
+    return lines + ["turn"] * (sum(map(frame_length, bodies)) // READ + 2)
 
 
-def largest():
-    """The most messages whose script is short enough."""
-    low, high = 1, MOST // 60
-    while low < high:
-        middle = (low + high + 1) // 2
-        # A script's length grows by little more than a line a message.
-        if len(script(middle)) <= MOST:
-            low = middle
-        else:
-            high = middle - 1
-    return low
+def many_sessions(orders):
+    names = [f"B{s:02}" for s in range(SESSIONS)]
+    lines = [f"session GATE {name}" for name in names] + [f"at {STAMP}"] + ["connect"] * SESSIONS
+    lines += [f"frame {s} {logon(name)}" for s, name in enumerate(names)]
+    each, taken = orders // SESSIONS, 0
+    for n in range(2, each + 2):
+        lines += [f"frame {s} {order(name, n)}" for s, name in enumerate(names)]
+        taken += frame_length(order("B00", n))
+    lines += [f"finish {s}" for s in range(SESSIONS)]
+    return lines + ["turn"] * (taken // READ + SESSIONS + 3)
 
 
-def best_of_three(command):
-    times = []
-    for _ in range(3):
-        start = time.perf_counter()
-        run = subprocess.run(command, stdout=subprocess.DEVNULL)
-        times.append(time.perf_counter() - start)
-        if run.returncode != 0:
-            sys.exit(f"{' '.join(command)} ended with status {run.returncode}")
-    return min(times)
+def library_calls(orders):
+    lines = ["session GATE BUYER", "libraries 1", f"at {STAMP}", "connect", "frame 0 " + logon("BUYER"), "turn"]
+    for first in range(2, orders + 2, ROUND):
+        numbers = range(first, min(first + ROUND, orders + 2))
+        lines += [f"frame 0 {order('BUYER', n)}" for n in numbers]
+        lines += ["turn"] * (sum(frame_length(order("BUYER", n)) for n in numbers) // READ + 1)
+        lines += [f"lib 1 request 0 {first - 2}", "turn", "lib 1 poll"]
+        for n in numbers:
+            lines += ["lib 1 poll", f"lib 1 send 0 35=8|37=O{n}|11=ORDER{n}|17=E{n}|150=0|39=0|55=ACME|54=1|151=100|14=0|6=0|"]
+            # A lane holds sixteen messages until the engine takes them.
+            if n % 15 == 0:
+                lines.append("turn")
+        lines += ["lib 1 release 0", "turn"]
+    return lines + ["finish 0", "turn"]
 
 
-def measure(folder, scan, messages):
-    path = os.path.join(folder, f"{messages}.script")
-    text = script(messages)
+def text_of(make, orders):
+    return "\n".join(make(orders)) + "\n"
+
+
+def largest(make):
+    """About the most orders whose script is short enough."""
+    probe = 6_400
+    a_order = (len(text_of(make, 2 * probe)) - len(text_of(make, probe))) / probe
+    orders = int(MOST / a_order)
+    while len(text_of(make, orders)) > MOST:
+        orders -= orders // 200
+    return orders
+
+
+def run(command):
+    start = time.perf_counter()
+    ended = subprocess.run(command, stdout=subprocess.PIPE)
+    took = time.perf_counter() - start
+    if ended.returncode != 0:
+        sys.exit(f"{' '.join(command)} ended with status {ended.returncode}")
+    return took, len(ended.stdout)
+
+
+def measure(folder, plain, name, make, orders):
+    path = os.path.join(folder, f"{name}.{orders}.script")
+    text = text_of(make, orders)
     with open(path, "w") as file:
         file.write(text)
-    replayed = best_of_three([PROGRAM, "replay", path])
-    scanned = best_of_three([scan, path])
+    runs = [(run([PROGRAM, "replay", path]), run([plain, path])) for _ in range(5)]
+    replayed, told = min(a for a, _ in runs)
+    yardstick, plainly = min(b for _, b in runs)
     print(
-        f"{messages} messages, {len(text)} bytes: replay {replayed:.3f} s, "
-        f"{messages / replayed:,.0f} messages a second, {len(text) / replayed / 1e6:.1f} MB a second; "
-        f"plain C {scanned:.4f} s; ratio {replayed / scanned:.1f}"
+        f"{name}: {orders} orders, {len(text):,} bytes: replay {replayed:.3f} s, {orders / replayed:,.0f} orders and "
+        f"{len(text) / replayed / 1e6:.1f} MB a second; plain C {yardstick:.3f} s; ratio {replayed / yardstick:.2f}; "
+        f"reports of {told:,} and {plainly:,} bytes"
     )
     return replayed
 
@@ -81,12 +120,13 @@ def main():
     # Builds the program first where that is due.
     subprocess.run([FIXGATE], stdout=subprocess.DEVNULL, stderr=subprocess.DEVNULL)
     with tempfile.TemporaryDirectory() as folder:
-        scan = os.path.join(folder, "scan")
-        subprocess.run(["cc", "-O2", "-o", scan, os.path.join(ROOT, "bench", "scan.c")], check=True)
-        most = largest()
-        whole = measure(folder, scan, most)
-        tenth = measure(folder, scan, most // 10)
-        print(f"ratio of the times for {most} and {most // 10} messages: {whole / tenth:.1f}")
+        plain = os.path.join(folder, "plain_replay")
+        subprocess.run(["cc", "-O2", "-o", plain, os.path.join(ROOT, "bench", "plain_replay.c")], check=True)
+        for name, make in [("one session", one_session), ("64 sessions", many_sessions), ("library calls", library_calls)]:
+            most = largest(make)
+            whole = measure(folder, plain, name, make, most)
+            tenth = measure(folder, plain, name, make, most // 10)
+            print(f"{name}: ratio of the times for {most} and {most // 10} orders: {whole / tenth:.1f}")
 
 
 if __name__ == "__main__":
