@@ -18,29 +18,33 @@ use Rattle.lease_words.specs.declared.item.Item.{Item}
 use Rattle.lease_words.specs.declared.view.LibrarySession.{LibrarySession}
 use Rattle.library_api.specs.Calls.{deeds_by, deeds_of, did_give, popped_of}
 use Rattle.library_api.specs.Known.{Known, held, lease_in, new_library, no_reading, reading_at, reading_count, session_at}
-use Rattle.library_api.specs.Laws.{BeginningsAreInOrder, DeedsAreAnswered, PollsPop, PostsAreSent, ReadsHaveNoGap, RepliesCloseRequests}
+use Rattle.library_api.specs.Laws.{BeginningsAreInOrder, DeedsAreAnswered, PollsPop, PostsAreSent, ReadsHaveNoGap, RepliesCloseRequests, RequestsAreNumbered}
 use Rattle.library_api.specs.Posts.{posts_by, posts_of}
 use Rattle.library_api.specs.Reads.{AreInOrder, granted_from, numbers_from, reads_of}
 use Rattle.library_api.specs.Replies.{IsRepliedTo, replies_in}
 use Rattle.library_desk.specs.declared.desk.Stray.{Stray}
 use Rattle.library_desk.specs.declared.ends.EngineEnds.{EngineEnds}
 use Rattle.library_laws.specs.Feeds.{IsLogged}
-use Rattle.library_laws.specs.Replies.{IsAnswered, replies_told, reply_of, stray_reply}
+use Rattle.library_laws.specs.Replies.{Ask, IsAnswered, answered_by, asked_by, replies_told, reply_of, stray_reply}
 use Rattle.library_laws.specs.Sends.{AreLogged}
 use Rattle.run_laws.specs.Accounted.{AreNumbered, LeasesStand, LeavesAccounted}
 use Rattle.run_laws.specs.Lives.{HasLived, HaveLived, IsRepliedInOrder}
 use Rattle.script_run.specs.declared.callers.Caller.{Caller}
 use Rattle.script_run.specs.declared.run.Run.{Run}
-use Rattle.run_laws.specs.Records.{AllAreBorneOut}
-use Rattle.run_laws.specs.Reports.{ArePostsLogged, AreRepliesTold, GivesBack, HandsOn, IsReplyTold, IsTold, positions_kept, posts_kept}
+use Rattle.run_laws.specs.Records.{AllAreReplied}
+use Rattle.run_laws.specs.Reports.{ArePostsLogged, AreRepliesTold, GivesBack, HandsOn, IsBorneOut, IsReplyTold, IsTold, asks_kept, positions_kept, posts_kept}
+use Rattle.run_laws.specs.Sides.{Begins}
+use Rattle.run_laws.proofs.Asked.{calls_ask}
 use Rattle.run_laws.proofs.Given.{DidBy, OnGiven, calls_gave, gave_so}
 use Rattle.run_laws.proofs.Grants.{IsBeside, first_grant, none_given}
-use Rattle.run_laws.proofs.Lived.{none_there}
+use Rattle.run_laws.proofs.Lived.{none_there, requests_numbered}
+use Rattle.run_laws.proofs.Numbers.{numbers_asked}
 use Rattle.run_laws.proofs.Told.{calls_given, positions_told, posts_told}
 use Rattle.run_report.specs.declared.calls.Call.{Call as Kept}
 use Rattle.run_report.specs.declared.calls.Call.TheVariants as calls
+use Rattle.run_report.specs.declared.records.LibReport.{LibReport}
 use Rattle.run_report.specs.declared.records.RunRecord.{RunRecord}
-use Rattle.script_run.specs.Means.{seat_of}
+use Rattle.script_run.specs.Means.{report_of, seat_of}
 use Rattle.session_book.specs.Book.{Book}
 use Rattle.session_core.specs.State.{State}
 use Rattle.switchboard.specs.Board.{Board, book_at}
@@ -54,6 +58,11 @@ seat_there (c ∷ callers) (suc place) caller found = (let there = seat_there ca
 bodies_posted : (items : List Item) → bodies_of items ≡ map (λ post. post.body) (posts_by items)
 bodies_posted [] = refl
 bodies_posted (item ∷ items) = ap (λ bodies. item.body ∷ bodies) (bodies_posted items)
+
+-- what holds of each library's report holds of all
+all_reported : (P : LibReport → Type 0) (callers : List Caller) → ((place : ℕ) (caller : Caller) → slice_get callers place ≡ Some caller → P (report_of caller)) → All P (map report_of callers)
+all_reported P [] each = All-nil P
+all_reported P (caller ∷ callers) each = All-cons P (report_of caller) (map report_of callers) (each 0 caller refl) (all_reported P callers (λ place. each (suc place)))
 
 -- what holds of all holds of what begins them
 of_front : {T : Type 0} (P : T → Type 0) (xs ys : List T) → All P (xs ++ ys) → All P xs
@@ -102,6 +111,11 @@ module _ (polls_pop : PollsPop) (closed : RepliesCloseRequests) (deeds_are_answe
         let reads = no_gap s lease None k lived.made some small (length-replicate reading_count no_reading) lived.lawful seated at (subst (AreInOrder s lease None) (sym popped_is) in_order) in
         told ∙ (reads ∙ (ap (λ ns. numbers_from (granted_from s lease ns) (length (reads_of s lease k lived.made))) popped_is
         ∙ ap (λ positions. numbers_from (granted_from s lease caller.library.ends.head.popped) (length positions)) (sym told)))
+
+    -- its requests are those that its calls made
+    asks_are : asks_kept caller.calls.items ≡ flat_map asked_by caller.library.ends.tail.pushed
+    asks_are = sym (ap (λ (now : Known). flat_map asked_by now.ends.tail.pushed) lived.known ∙ (calls_ask k lived.made caller.calls.items lived.lawful lived.kept
+        ∙ ap (λ pushed. flat_map asked_by pushed ++ asks_kept caller.calls.items) lived.unused.pushed))
 
     -- its requests were replied to
     replied_to : IsRepliedInOrder requests caller lived → IsRepliedTo caller.library
@@ -166,9 +180,9 @@ module _ (before : ℕ → List Entry) (board : Board) (strays : List Stray) (li
   all_told logged i d within = notice_is_told (get_or e.tail.pushed i d) (logged i d within) (All-contains_itself e.tail.pushed i d within)
 
 module _ (polls_pop : PollsPop) (closed : RepliesCloseRequests) (deeds_are_answered : DeedsAreAnswered) (posts_are_sent : PostsAreSent) (no_gap : ReadsHaveNoGap) (beginnings : BeginningsAreInOrder) where
-  pub all_borne_out : (before : ℕ → List Entry) (start : ℕ → State) (requests : ℕ) (run : Run) (left : RunRecord) (leaves : LeavesAccounted before start run left) → AreNumbered run → HaveLived requests run
-      → AllAreBorneOut before leaves.gathered.board run.engine.sessions.strays.items run
-  all_borne_out before start requests run left leaves numbered lived place caller found =
+  one_borne_out : (before : ℕ → List Entry) (start : ℕ → State) (requests : ℕ) (run : Run) (left : RunRecord) (leaves : LeavesAccounted before start run left) → AreNumbered run → HaveLived requests run
+      → (place : ℕ) (caller : Caller) → slice_get run.callers.items place ≡ Some caller → IsBorneOut before leaves.gathered.board run.engine.sessions.strays.items (report_of caller)
+  one_borne_out before start requests run left leaves numbered lived place caller found =
       let one = lived place caller found in
       let numbers = numbered.each place caller found in
       let served = one.served in
@@ -205,8 +219,31 @@ module _ (polls_pop : PollsPop) (closed : RepliesCloseRequests) (deeds_are_answe
         told = handed_on polls_pop closed deeds_are_answered posts_are_sent no_gap beginnings requests caller one.lived (IsTold board strays caller.number) popped_told;
         given_back = all_given polls_pop closed deeds_are_answered posts_are_sent no_gap beginnings requests caller one.lived board
             (λ s small. subst (λ n. LeasesStand (lines_of (book_at board s).entries) n (library_at caller.library.ends.seat s).leases) seat (leaves.leases s (seat_of caller) small (seat_there run.callers.items place caller found)));
+      }
+
+  pub all_borne_out : (before : ℕ → List Entry) (start : ℕ → State) (requests : ℕ) (run : Run) (left : RunRecord) (leaves : LeavesAccounted before start run left) → AreNumbered run → HaveLived requests run
+      → All (IsBorneOut before leaves.gathered.board left.engine.strays) left.libraries
+  all_borne_out before start requests run left leaves numbered lived =
+      let board = leaves.gathered.board in
+      subst (λ strays. All (IsBorneOut before board strays) left.libraries) (sym leaves.leaves.strays_are)
+      (subst (All (IsBorneOut before board run.engine.sessions.strays.items)) (sym leaves.libraries)
+      (all_reported (IsBorneOut before board run.engine.sessions.strays.items) run.callers.items (one_borne_out before start requests run left leaves numbered lived)))
+
+  pub all_replied : RequestsAreNumbered → (before : ℕ → List Entry) (start : ℕ → State) (requests : ℕ) (run : Run) (left : RunRecord) (leaves : LeavesAccounted before start run left) → HaveLived requests run
+      → AllAreReplied before leaves.gathered.board run
+  all_replied numbered before start requests run left leaves lived place caller found =
+      let one = lived place caller found in
+      let served = one.served in
+      let board = leaves.gathered.board in
+      let library = place + 1 in
+      let at : slice_get run.engine.sessions.ends.items (library - 1) ≡ Some served.side = subst (λ j. slice_get run.engine.sessions.ends.items j ≡ Some served.side) (omega arith) served.found in
+      let answered = leaves.accounted.answered library served.side (omega arith) at in
+      let asks = asks_are polls_pop closed deeds_are_answered posts_are_sent no_gap beginnings requests caller one.lived in
+      record {
+        numbers = ap (map (λ (ask : Ask). ask.nr)) asks ∙ (sym (numbers_asked caller.library.ends.tail.pushed) ∙ (requests_numbered numbered requests caller one.lived).numbers);
+        answers = subst (Begins (flat_map answered_by caller.library.ends.head.popped)) (sym asks) served.answers;
         replied = replied_to polls_pop closed deeds_are_answered posts_are_sent no_gap beginnings requests caller one.lived one.replied;
-        replies = λ s small. subst (λ n. AreRepliesTold n s (before s) (book_at board s).entries caller.library.ends.head.popped) (sym numbers.number)
+        replies = λ s small. subst (λ n. AreRepliesTold n s (before s) (book_at board s).entries caller.library.ends.head.popped) (sym one.number)
             (record {
               rest = flat_map (reply_of s) served.popped.rest;
               are = answered.told s small ∙ ap (λ replies. replies_told library s (before s) ++ replies)

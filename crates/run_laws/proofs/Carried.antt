@@ -1,5 +1,4 @@
 -- A run stays accounted for over each step of its script, and over the last gathering.
-use Rattle.std.proofs.lemmas.Bool.{cases_eq}
 use Rattle.std.proofs.Common.{◌≡◌, ◌≢◌, ℕ, suc, ◌+◌, ◌-◌, ◌<◌, ◌≤◌, List, [], ◌∷◌, length, None, Some, refl, ap, subst, sym, ◌∙◌, arith}
 use Rattle.std.proofs.lemmas.List.{length-set}
 use Rattle.std.proofs.lemmas.List.Elements.{All-cons, All-contains, All-nil}
@@ -14,7 +13,6 @@ use Rattle.engine_loop.specs.Engines.{IsAtWork, IsOnline, until_of}
 use Rattle.engine_loop.specs.Turns.{AtWire, MakesTurn}
 use Rattle.engine_loop.specs.declared.engine.Engine.{Engine}
 use Rattle.engine_loop.specs.declared.records.Turn.{Turn}
-use Rattle.engine_start.specs.Starts.{StartsDesk, StartsEngine, StartsSessions, StartsTable}
 use Rattle.gate_io.specs.MemWire.{WireState, link_at}
 use Rattle.gate_io.specs.Wire.{Link, LinkGoesOn}
 use Rattle.lease_core.specs.declared.entry.Entry.{Entry}
@@ -36,8 +34,8 @@ use Rattle.run_laws.proofs.Calls.{call_made}
 use Rattle.run_laws.proofs.Wires.{comes_on, room_on, same_on}
 use Rattle.run_laws.proofs.Places.{each_behind}
 use Rattle.run_laws.proofs.Settled.{leases_stand}
-use Rattle.run_laws.proofs.Sides.{turn_made}
-use Rattle.run_laws.proofs.Tables.{all_gathered, each_in_turn}
+use Rattle.run_laws.proofs.GoingOn.{GoingLaws, all_gathered, made_turn}
+use Rattle.run_laws.proofs.Steps.{each_in_turn}
 use Rattle.run_report.specs.declared.records.RunRecord.{RunRecord}
 use Rattle.script_run.specs.Calls.{CallsAs}
 use Rattle.script_run.specs.Means.{Leaves, seat_of}
@@ -53,6 +51,7 @@ use Rattle.text_laws.specs.Taken.{TookTheirTexts}
 
 -- what the laws of turns, meetings and gatherings say
 pub record Laws (before : ℕ → List Entry) (start : ℕ → State) : Type 0 where
+  pub going : GoingLaws
   pub turn_ready : (reading : ℕ) (old new : AtWire) (turn : Turn) → MakesTurn reading old new turn → IsReady before (board_of old.engine) → IsReady before (board_of new.engine)
   pub turn_account : (reading : ℕ) (old new : AtWire) (turn : Turn) → MakesTurn reading old new turn → IsReady before (board_of old.engine)
       → IsAccountedFor before start old.engine.moment (board_of old.engine) → IsAccountedFor before start new.engine.moment (board_of new.engine)
@@ -125,7 +124,7 @@ module _ (before : ℕ → List Entry) (start : ℕ → State) (laws : Laws befo
 
   turned : (old new : Run) → TurnsOver old new → Stays old new
   turned old new is was =
-      let sides = turn_made old.clock.moment _ _ is.turn is.turns in
+      let sides = (made_turn laws.going old.clock.moment _ _ is.turn is.turns).sides in
       record {
         texts = laws.text_turn is.shared old.clock.moment _ _ is.turn is.turns is.work is.online was.engine.ready was.texts;
         engine = record {
@@ -223,10 +222,12 @@ module _ (before : ℕ → List Entry) (start : ℕ → State) (laws : Laws befo
       let keeps = gathered_account at until (after_settling seats old.desk) gathered finished.gathers in
       let libraries = old.desk.seat.table.shape.libraries in
       let taken = laws.gathers_taken seats at until old.desk gathered finished.gathers was.engine.ready was.engine.taken in
-      let table : gathered.seat.table ≡ old.desk.seat.table = all_gathered at until (after_settling seats old.desk) gathered finished.gathers in
+      let goes = all_gathered laws.going at until (after_settling seats old.desk) gathered finished.gathers in
+      let table : gathered.seat.table ≡ old.desk.seat.table = goes.table in
       let sessions : length gathered.board.sessions ≡ length old.desk.board.sessions = taken.seated ∙ (ap (λ (t : TableRef). t.shape.sessions) table ∙ sym was.engine.taken.seated) in
       record {
         gathered = gathered;
+        goes_on = goes.board;
         accounted = record {
           ready = keeps.ready before was.engine.ready;
           account = keeps.account before start at (omega arith) was.engine.ready was.engine.account;

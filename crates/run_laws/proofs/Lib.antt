@@ -1,7 +1,9 @@
+mod Asked
 mod Borne
 mod Calls
 mod Carried
 mod Given
+mod GoingOn
 mod Grants
 mod Lived
 mod Numbers
@@ -9,6 +11,7 @@ mod Places
 mod Settled
 mod Sides
 mod Starts
-mod Tables
-mod Wires
+mod Steps
 mod Told
+mod Turns
+mod Wires

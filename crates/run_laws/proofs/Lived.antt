@@ -3,6 +3,7 @@ use Rattle.std.proofs.Common.{◌≡◌, ◌≢◌, inl, inr, ℕ, zero, suc, �
 use Rattle.std.proofs.lemmas.Bool.{cases_lt}
 use Rattle.std.proofs.lemmas.List.{append-nil, append_assoc, length-replicate}
 use Rattle.std.proofs.lemmas.Option.{slice_get_within}
+use Rattle.std.specs.List.{flat_map}
 use Rattle.std.specs.Prelude.{replicate, slice_get, slice_index_or, slice_set}
 use Rattle.engine_config.specs.declared.config.Config.{Config}
 use Rattle.engine_end.specs.Meeting.{SeatsMeet}
@@ -19,19 +20,19 @@ use Rattle.library_api.specs.Replies.{AreReplies, HoldsThroughout, replies_in}
 use Rattle.library_desk.specs.declared.desk.LibraryDesk.{LibraryDesk}
 use Rattle.library_desk.specs.declared.ends.EngineEnds.{EngineEnds}
 use Rattle.library_desk.specs.declared.shared.Shared.{Shared}
-use Rattle.run_laws.specs.Sides.{Begins, SidesGoOn}
-use Rattle.library_laws.specs.Replies.{AreAnswered}
+use Rattle.library_laws.specs.Replies.{AreAnswered, answered_by, asked_by}
 use Rattle.run_laws.specs.Accounted.{IsAccountedRun}
 use Rattle.run_laws.specs.Lives.{AreKeptAs, HasLived, HaveLived, IsKeptAs, IsLibraryOf, IsRepliedInOrder, IsServedAt}
 use Rattle.script_run.specs.declared.callers.Caller.{Caller}
 use Rattle.script_run.specs.declared.run.Run.{Run}
 use Rattle.run_laws.proofs.Calls.{call_made}
 use Rattle.run_laws.proofs.Carried.{Laws, carried as account_carried, met as account_met}
-use Rattle.run_laws.proofs.Numbers.{replies_met}
+use Rattle.run_laws.proofs.GoingOn.{made_turn}
+use Rattle.run_laws.proofs.Numbers.{answers_met, replies_met}
 use Rattle.run_laws.proofs.Places.{OfEach, each_behind, get_set_other, get_set_same}
-use Rattle.run_laws.proofs.Sides.{begins_further, begins_itself, turn_made}
+use Rattle.run_laws.proofs.Sides.{begins_further, begins_itself}
 use Rattle.run_laws.proofs.Starts.{past_end}
-use Rattle.run_laws.proofs.Tables.{each_in_turn}
+use Rattle.run_laws.proofs.Steps.{each_in_turn}
 use Rattle.run_report.specs.declared.calls.Call.{Call as Kept}
 use Rattle.script_run.specs.Calls.{CallsAs}
 use Rattle.script_run.specs.Means.{StartsRun}
@@ -121,7 +122,7 @@ record IsAlmost (requests : ℕ) (d : LibraryDesk) (place j : ℕ) (caller : Cal
 
 -- ends at another place
 served_beside : (ends : List EngineEnds) (place j : ℕ) (after : EngineEnds) (caller : Caller) → j ≢ place → IsServedAt ends j caller → IsServedAt (slice_set ends place after) j caller
-served_beside ends place j after caller other was = record { side = was.side; found = get_set_other ends place j after other ∙ was.found; popped = was.popped; heard = was.heard; asked = was.asked; kept = was.kept }
+served_beside ends place j after caller other was = record { side = was.side; found = get_set_other ends place j after other ∙ was.found; popped = was.popped; heard = was.heard; asked = was.asked; kept = was.kept; answers = was.answers }
 
 place_is : (number place : ℕ) → number ≡ place + 1 → number - 1 ≡ place
 place_is number place is = omega arith
@@ -139,7 +140,7 @@ same_replies old new popped asked are = record {
 }
 
 -- the requests of a library are numbered
-requests_numbered : RequestsAreNumbered → (requests : ℕ) (caller : Caller) → HasLived requests caller → AreNumbered caller.library
+pub requests_numbered : RequestsAreNumbered → (requests : ℕ) (caller : Caller) → HasLived requests caller → AreNumbered caller.library
 requests_numbered law requests caller lived =
     let k = new_library lived.first requests in
     subst AreNumbered (sym lived.known) (law k lived.made lived.lawful (record {
@@ -194,6 +195,11 @@ module _ (numbered : RequestsAreNumbered) (before : ℕ → List Entry) (start :
           heard = rings.after.head.popped;
           asked = record { rest = rings.after.head.told; is = rings.commands.pushed };
           kept = begins_itself rings.after.head.popped;
+          answers =
+              let side = slice_side place one.before.number rings.after new.engine.sessions.ends.items own.number (ap (λ all. slice_get all place) ends ∙ get_set_same old.engine.sessions.ends.items place rings.after (slice_get_within old.engine.sessions.ends.items place rings.before found)) in
+              let number : one.before.number ≡ place + 1 = own.number in
+              answers_met one.after.library.ends.head.popped one.after.library.ends.head.told rings.after.tail.pushed rings.after.head.popped rings.after.head.told one.after.library.ends.tail.pushed
+              rings.notices.pushed rings.commands.pushed (answered one.before.number rings.after (omega arith) side).each;
         };
       }) was
 
@@ -233,7 +239,7 @@ module _ (numbered : RequestsAreNumbered) (before : ℕ → List Entry) (start :
 
   turned : (requests : ℕ) (old new : Run) → TurnsOver old new → HaveLived requests old → HaveLived requests new
   turned requests old new is was place caller found =
-      let sides = turn_made old.clock.moment _ _ is.turn is.turns in
+      let sides = (made_turn laws.going old.clock.moment _ _ is.turn is.turns).sides in
       let there = was place caller (subst (λ (run : Run). slice_get run.callers.items place ≡ Some caller) is.rest found) in
       let served = there.served in
       let on = sides.each place served.side served.found in
@@ -249,6 +255,7 @@ module _ (numbered : RequestsAreNumbered) (before : ℕ → List Entry) (start :
           heard = served.heard;
           asked = served.asked;
           kept = begins_further served.heard served.side.head.popped on.ends.head.popped served.kept on.popped;
+          answers = served.answers;
         };
       }
 
@@ -320,5 +327,6 @@ first_lived config moment shared run starts place caller found =
         heard = [];
         asked = record { rest = caller.library.ends.tail.pushed; is = refl };
         kept = record { rest = side.0.head.popped; is = refl };
+        answers = record { rest = flat_map asked_by caller.library.ends.tail.pushed; is = ap (λ ns. flat_map answered_by ns ++ flat_map asked_by caller.library.ends.tail.pushed) popped };
       };
     }

@@ -2,6 +2,7 @@
 use Rattle.std.proofs.Common.{◌≡◌, inl, inr, ℕ, zero, suc, ◌≤◌, List, [], ◌∷◌, ◌++◌, length, length-append, map, take, refl, ap, subst, sym, ◌∙◌, arith}
 use Rattle.std.proofs.lemmas.Bool.{cases_lt}
 use Rattle.std.proofs.lemmas.List.{append_assoc, take-append-le, take_all, take_at}
+use Rattle.std.proofs.lemmas.Grind.{flat_map-append}
 use Rattle.std.specs.List.{flat_map}
 use Rattle.lease_core.specs.declared.messages.Command.{Command}
 use Rattle.lease_core.specs.declared.messages.Command.TheVariants as commands
@@ -11,6 +12,7 @@ use Rattle.library_api.specs.Calls.{AreNumbered, numbers_in, numbers_to}
 use Rattle.library_api.specs.Known.{Known}
 use Rattle.library_api.specs.Replies.{AreReplies, replies_in}
 use Rattle.library_laws.specs.Replies.{Ask, answered_by, asked_by}
+use Rattle.run_laws.specs.Sides.{Begins}
 
 long_numbers : (n : ℕ) → length (numbers_to n) ≡ n
 long_numbers zero = refl
@@ -32,7 +34,7 @@ begun_numbers xs ys n are =
     let few : length xs ≤ n = omega (arith, length-append xs ys, ap length are) in
     (sym (take_at xs ys (length xs) refl) ∙ (ap (take (length xs)) are ∙ first_numbers n (length xs) few), few)
 
-numbers_asked : (cs : List Command) → numbers_in cs ≡ map (λ (ask : Ask). ask.nr) (flat_map asked_by cs)
+pub numbers_asked : (cs : List Command) → numbers_in cs ≡ map (λ (ask : Ask). ask.nr) (flat_map asked_by cs)
 numbers_asked [] = refl
 numbers_asked (commands.Request nr s from ∷ cs) = ap (λ numbers. nr ∷ numbers) (numbers_asked cs)
 numbers_asked (commands.Done finished ∷ cs) = numbers_asked cs
@@ -64,3 +66,13 @@ replies_met k told pushed popped waiting numbered notices_are commands_are answe
     let begun = begun_numbers (replies_in k.ends.head.popped) (replies_in told ++ numbers_in waiting) k.asked
     (sym (append_assoc (replies_in k.ends.head.popped) (replies_in told) (numbers_in waiting)) ∙ (ap (λ front. front ++ numbers_in waiting) theirs ∙ all)) in
     record { numbers = begun.0; asked = begun.1 }
+
+-- and the replies that were popped are those of the requests that were pushed
+pub answers_met : (first told all : List Notice) (popped waiting pushed : List Command) → first ++ told ≡ all → popped ++ waiting ≡ pushed → flat_map answered_by all ≡ flat_map asked_by popped
+    → Begins (flat_map answered_by first) (flat_map asked_by pushed)
+answers_met first told all popped waiting pushed notices_are commands_are answered = record {
+  rest = flat_map answered_by told ++ flat_map asked_by waiting;
+  is = sym (append_assoc (flat_map answered_by first) (flat_map answered_by told) (flat_map asked_by waiting))
+      ∙ (ap (λ front. front ++ flat_map asked_by waiting) (sym (flat_map-append answered_by first told) ∙ (ap (flat_map answered_by) notices_are ∙ answered))
+      ∙ (sym (flat_map-append asked_by popped waiting) ∙ ap (flat_map asked_by) commands_are));
+}

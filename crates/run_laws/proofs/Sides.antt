@@ -1,17 +1,10 @@
 -- The engine's sides of table and rings go on, step by step.
-use Rattle.std.proofs.Common.{◌≡◌, inl, inr, ℕ, ◌+◌, ◌-◌, List, [], ◌∷◌, ◌++◌, length, Some, refl, ap, subst, sym, ◌∙◌}
+use Rattle.std.proofs.Common.{◌≡◌, inl, inr, ℕ, ◌-◌, List, [], ◌∷◌, ◌++◌, length, Some, refl, ap, subst, sym, ◌∙◌}
 use Rattle.std.proofs.lemmas.Bool.{cases_eq}
 use Rattle.std.proofs.lemmas.List.{append-nil, append_assoc, length-set}
 use Rattle.std.proofs.lemmas.Option.{same_Some, slice_get_within}
-use Rattle.std.specs.Prelude.{slice_get, slice_index_or, slice_set}
-use Rattle.engine_loop.specs.Engines.{until_of}
-use Rattle.engine_loop.specs.Turns.{AcceptsNext, AtWire, DialsSession, GivesTurn, MakesTurn, NotesSession, PublishesSession, Reading, ReadsIfStands, ServesOne, Serving, TakesTurn, TicksSession, WritesAll, at_wire, reading_of, serving_of, with_moment}
-use Rattle.engine_loop.specs.declared.engine.Engine.{Engine}
-use Rattle.engine_loop.specs.declared.records.Taken.{Taken}
-use Rattle.engine_loop.specs.declared.records.Turn.{Turn}
-use Rattle.gate_io.specs.Wire.{Link}
-use Rattle.gate_io.specs.declared.wires.Accepted.{Accepted}
-use Rattle.lease_desk.specs.Desk.{InTurn, TakesBackFrom, seat_after_reply}
+use Rattle.std.specs.Prelude.{slice_get, slice_set}
+use Rattle.lease_desk.specs.Desk.{TakesBackFrom, seat_after_reply}
 use Rattle.lease_desk.specs.declared.desk.LeaseDesk.{LeaseDesk}
 use Rattle.lease_core.specs.declared.messages.Notice.{Notice}
 use Rattle.lease_core.specs.declared.messages.Reply.{Reply}
@@ -25,9 +18,7 @@ use Rattle.library_desk.specs.declared.serving.LibTurn.{LibTurn}
 use Rattle.library_desk.specs.declared.serving.LibTurn.TheVariants as turns
 use Rattle.run_laws.specs.Sides.{Begins, EndsGoOn, SidesGoOn}
 use Rattle.run_laws.proofs.Places.{get_set_other, get_set_same}
-use Rattle.run_laws.proofs.Tables.{SameTable, accepted_as, dialled_as, each_in_turn, read, ticked, written_in_turn}
-use Rattle.wire_desk.specs.Places.{open_places}
-use Rattle.wire_desk.specs.Steps.{written_so_far}
+use Rattle.run_laws.proofs.Steps.{each_in_turn}
 
 pub begins_itself : {T : Type 0} (xs : List T) → Begins xs xs
 begins_itself xs = record { rest = []; is = append-nil xs }
@@ -38,7 +29,7 @@ begins_further xs ys zs one two = record {
   is = sym (append_assoc xs one.rest two.rest) ∙ (ap (λ front. front ++ two.rest) one.is ∙ two.is);
 }
 
-begins_same : {T : Type 0} (xs ys : List T) → ys ≡ xs → Begins xs ys
+pub begins_same : {T : Type 0} (xs ys : List T) → ys ≡ xs → Begins xs ys
 begins_same xs ys same = subst (λ zs. Begins xs zs) (sym same) (begins_itself xs)
 
 begins_more : {T : Type 0} (xs more ys : List T) → ys ≡ xs ++ more → Begins xs ys
@@ -65,6 +56,9 @@ goes_further first second third one two = record {
         popped = begins_further ends.head.popped here.ends.head.popped there.ends.head.popped here.popped there.popped;
       };
 }
+
+abbrev pub SameTable : LeaseDesk → LeaseDesk → Type 0
+SameTable old new = new.seat.table ≡ old.seat.table
 
 -- the desk of leases alone changes, whose seat stays at the table
 pub desk_alone : (old new : LibraryDesk) → SameTable old.desk new.desk → new.ends ≡ old.ends → SidesGoOn old new
@@ -171,86 +165,3 @@ served library at until old new turn is =
     (goes_further is.heard is.expired new (expired library at until old.watch is.beat is.heard is.expired is.expires)
     (goes_further is.expired is.answered new (answered library is.expired is.answered turn is.answers)
     (each_in_turn (PumpsTo library) SidesGoOn goes_itself goes_further (pumped library) (length is.answered.desk.board.sessions) is.answered new is.pumps)))
-
--- and so they go on over the steps of a turn
-abbrev GoOn : Engine → Engine → Type 0
-GoOn old new = SidesGoOn old.sessions new.sessions
-
-on_itself : (e : Engine) → GoOn e e
-on_itself e = goes_itself e.sessions
-
-on_further : (first second third : Engine) → GoOn first second → GoOn second third → GoOn first third
-on_further first second third = goes_further first.sessions second.sessions third.sessions
-
-same_sessions : (old new : Engine) → new.sessions ≡ old.sessions → GoOn old new
-same_sessions old new same = same_desk old.sessions new.sessions same
-
-of_desk : (old new : Engine) → SameTable old.sessions.desk new.sessions.desk → new.sessions ≡ record (old.sessions) { desk = new.sessions.desk } → GoOn old new
-of_desk old new table rest = desk_alone old.sessions new.sessions table (ap (λ (d : LibraryDesk). d.ends) rest)
-
-engine_in_turn : (Step : ℕ → Engine → Engine → Type 0) (count : ℕ) (old new : Engine) → ((i : ℕ) (a b : Engine) → Step i a b → GoOn a b) → InTurn Step count old new → GoOn old new
-engine_in_turn Step count old new each steps = each_in_turn Step GoOn on_itself on_further each count old new steps
-
-session_noted : (s : ℕ) (old new : Engine) → NotesSession s old new → GoOn old new
-session_noted s old new is = same_sessions old new (ap (λ (e : Engine). e.sessions) is.1)
-
-next_accepted : (answer : Accepted) (old new : AtWire) → AcceptsNext answer old new → GoOn old.engine new.engine
-next_accepted answer old new is = elim is [
-  | inl asks ↦ of_desk old.engine new.engine (accepted_as answer old.engine.moment old.engine.sessions.desk new.engine.sessions.desk asks.accepts) (ap (λ (e : Engine). e.sessions) asks.rest)
-  | inr none ↦ same_sessions old.engine new.engine (ap (λ (a : AtWire). a.engine.sessions) none.1.1)
-]
-
-session_dialled : (s : ℕ) (old new : AtWire) → DialsSession s old new → GoOn old.engine new.engine
-session_dialled s old new is = of_desk old.engine new.engine
-    (dialled_as is.answer s old.engine.moment (until_of old.engine) old.engine.sessions.desk new.engine.sessions.desk old.engine.dialler new.engine.dialler is.dials) (ap (λ (e : Engine). e.sessions) is.rest)
-
-session_ticked : (s : ℕ) (old new : Engine) → TicksSession s old new → GoOn old new
-session_ticked s old new is = of_desk old new (ticked s old.moment (until_of old) old.sessions.desk new.sessions.desk is.end is.ticks) (ap (λ (e : Engine). e.sessions) is.rest)
-
-one_read : (k : ℕ) (old new : Reading) → ReadsIfStands k old new → GoOn old.engine new.engine
-one_read k old new is = elim is [
-  | inl reads ↦ of_desk old.engine new.engine (read reads.answer _ k _ old.engine.moment (until_of old.engine) _ _ reads.reads) (ap (λ (e : Engine). e.sessions) reads.rest)
-  | inr none ↦ same_sessions old.engine new.engine (ap (λ (r : Reading). r.engine.sessions) none.1)
-]
-
-session_published : (s : ℕ) (old new : Engine) → PublishesSession s old new → GoOn old new
-session_published s old new is = of_desk old new (ap (λ (v : EngineView). v.table) is.seat) (ap (λ (e : Engine). e.sessions) is.rest)
-
-all_written : (links_old links_new : ℕ → Link) (old new : Engine) (bytes : ℕ) → WritesAll links_old links_new old new bytes → GoOn old new
-all_written links_old links_new old new bytes is =
-    let places = open_places old.lines in
-    of_desk old new (written_in_turn places (length places) (written_so_far old.sessions.desk old.lines.unkept.items links_old 0)
-    (written_so_far new.sessions.desk old.lines.unkept.items links_new bytes) is.writes) (ap (λ (e : Engine). e.sessions) is.rest)
-
-turn_given : (old new : AtWire) (taken : Taken) (turn : Turn) → GivesTurn old new taken turn → GoOn old.engine new.engine
-turn_given old new taken turn is =
-    let gives = is.gives in
-    on_further old.engine gives.published new.engine (engine_in_turn PublishesSession (length old.engine.sessions.desk.board.sessions) old.engine gives.published session_published gives.publishes)
-    (all_written old.links new.links gives.published new.engine turn.written gives.writes)
-
-one_served : (i : ℕ) (old new : Serving) → ServesOne (i + 1) old new → GoOn old.engine new.engine
-one_served i old new is = served (i + 1) old.engine.moment (until_of old.engine) old.engine.sessions new.engine.sessions is.turn is.serves
-
-turn_taken : (reading : ℕ) (old new : AtWire) (taken : Taken) → TakesTurn reading old new taken → GoOn old.engine new.engine
-turn_taken reading old new taken is =
-    let begun = with_moment reading old.engine in
-    let accepted = is.accepted in
-    let dialled = is.dialled in
-    let places = open_places dialled.engine.lines in
-    on_further begun accepted.engine new.engine (next_accepted taken.accepted (at_wire begun old.door old.links) accepted is.accepts)
-    (on_further accepted.engine dialled.engine new.engine
-    (each_in_turn DialsSession (λ (a b : AtWire). GoOn a.engine b.engine) (λ a. on_itself a.engine) (λ a b c. on_further a.engine b.engine c.engine) session_dialled
-    (length accepted.engine.sessions.desk.board.sessions) accepted dialled is.dials)
-    (on_further dialled.engine is.read new.engine
-    (each_in_turn (λ i. ReadsIfStands (slice_index_or places i 0)) (λ (a b : Reading). GoOn a.engine b.engine) (λ a. on_itself a.engine)
-    (λ a b c. on_further a.engine b.engine c.engine) (λ i a b. one_read (slice_index_or places i 0) a b) (length places) (reading_of dialled.engine dialled.links [])
-    (reading_of is.read new.links taken.reads) is.reads)
-    (on_further is.read is.ticked new.engine (engine_in_turn TicksSession (length is.read.sessions.desk.board.sessions) is.read is.ticked session_ticked is.ticks)
-    (on_further is.ticked is.served new.engine
-    (each_in_turn (λ i. ServesOne (i + 1)) (λ (a b : Serving). GoOn a.engine b.engine) (λ a. on_itself a.engine) (λ a b c. on_further a.engine b.engine c.engine)
-    one_served (length is.ticked.sessions.ends.items) (serving_of is.ticked []) (serving_of is.served taken.libs) is.serves)
-    (engine_in_turn NotesSession (length is.served.sessions.desk.board.sessions) is.served new.engine session_noted is.notes)))))
-
-pub turn_made : (reading : ℕ) (old new : AtWire) (turn : Turn) → MakesTurn reading old new turn → GoOn old.engine new.engine
-turn_made reading old new turn is =
-    on_further old.engine is.middle.engine new.engine (turn_taken reading old is.middle is.taken is.takes) (turn_given is.middle new is.taken turn is.gives)

@@ -20,7 +20,6 @@ use Rattle.switchboard.specs.Ready.{entries_of}
 use Rattle.switchboard.specs.Told.{machines_of}
 use Rattle.run_laws.specs.Accounted.{AreNumbered, first_machines, no_entries}
 use Rattle.library_desk.specs.declared.shared.Shared.{Shared}
-use Rattle.script_run.specs.declared.callers.Caller.{Caller}
 use Rattle.script_run.specs.declared.run.Run.{Run}
 use Rattle.script_run.specs.Means.{StartsRun}
 

@@ -4,8 +4,8 @@ use Rattle.std.proofs.lemmas.Bool.{leb-true}
 use Rattle.std.proofs.lemmas.List.{get_or-set_other}
 use Rattle.std.specs.Prelude.{if◌then◌else◌, ◌||◌, max}
 use Rattle.fix_frame.specs.Frame.{frame_of}
-use Rattle.gate_io.specs.MemWire.{ChangesLink, LinkState, WireState, is_of_dial, link_at, link_given, link_reserved, new_link, shown, state_at, wire_reserved, with_link}
-use Rattle.gate_io.specs.Wire.{Link, LinkGoesOn}
+use Rattle.gate_io.specs.MemWire.{ChangesLink, LinkState, WireState, is_of_dial, link_at, link_given, link_reserved, new_link, shown, state_at, wire_reserved}
+use Rattle.gate_io.specs.Wire.{LinkGoesOn}
 use Rattle.gate_io.specs.declared.wires.TheConstants.{FIRST_DIALLED}
 use Rattle.script_run.specs.Comes.{ComesAs}
 use Rattle.script_text.specs.declared.steps.Step.{Step}

@@ -25,6 +25,7 @@ use Rattle.script_run.specs.declared.run.Run.{Run}
 use Rattle.script_run.specs.Means.{report_of, seat_of}
 use Rattle.session_core.specs.State.{State}
 use Rattle.switchboard.specs.Board.{Board, book_at, connection_at}
+use Rattle.switchboard.specs.Going.{GoesOnTo}
 use Rattle.switchboard.specs.Ready.{IsReady}
 use Rattle.text_laws.specs.Taken.{IsCutShort, TookTextOf, TookTheirTexts}
 
@@ -93,6 +94,7 @@ EndedTookTexts before board links = (k : ℕ) → k < length board.connections �
 -- journal all that they did by their leases.
 pub record LeavesAccounted (before : ℕ → List Entry) (start : ℕ → State) (run : Run) (left : RunRecord) : Type 0 where
   pub gathered : LeaseDesk
+  pub goes_on : GoesOnTo run.engine.sessions.desk.board gathered.board
   pub accounted : IsAccountedAt before start run.engine.moment (gathered_of run gathered)
   pub leaves : IsLeftBy gathered.board run.engine.sessions.strays.items run.engine.accepted left.engine.added left.engine
   pub logged : AllAreLogged before gathered.board (map seat_of run.callers.items)

@@ -1,5 +1,6 @@
 -- What a library of a run did since it began: its calls, and the meetings before and behind each.
 use Rattle.std.specs.Prelude.{◌≡◌, ◌⊎◌, ℕ, ◌+◌, ◌≤◌, List, [], ◌∷◌, ◌++◌, length, slice_get, Some, Ok, Err}
+use Rattle.std.specs.List.{flat_map}
 use Rattle.lease_core.specs.declared.messages.Command.{Command}
 use Rattle.lease_words.specs.Views.{library_at, no_library_session}
 use Rattle.library_api.specs.Calls.{AreLawful, Call, after_call, after_calls, asks, beats, gives_back, hand_refused, is_done, meets, polls, release_refused, send_refused, sends}
@@ -11,6 +12,7 @@ use Rattle.library_desk.specs.declared.desk.LibraryDesk.{LibraryDesk}
 use Rattle.library_desk.specs.declared.ends.EngineEnds.{EngineEnds}
 use Rattle.script_run.specs.declared.callers.Caller.{Caller}
 use Rattle.script_run.specs.declared.run.Run.{Run}
+use Rattle.library_laws.specs.Replies.{answered_by, asked_by}
 use Rattle.run_laws.specs.Sides.{Begins}
 use Rattle.run_report.specs.declared.calls.Call.{Call as Kept}
 use Rattle.run_report.specs.declared.calls.Call.TheVariants as calls
@@ -55,7 +57,8 @@ pub record HasLived (requests : ℕ) (caller : Caller) : Type 0 where
 abbrev pub IsRepliedInOrder : (requests : ℕ) (caller : Caller) → HasLived requests caller → Type 0
 IsRepliedInOrder requests caller lived = HoldsThroughout AreReplies (new_library lived.first requests) lived.made
 
--- What a library popped begins what the engine pushed to it, at its place; and what the engine had popped at their last meeting begins what the library pushed.
+-- What a library popped begins what the engine pushed to it, at its place, and what the engine had popped at their last meeting begins what the library pushed.
+-- The replies that the library popped are those of its requests, in order, by number and session.
 pub record IsServedAt (ends : List EngineEnds) (place : ℕ) (caller : Caller) : Type 0 where
   pub side : EngineEnds
   pub found : slice_get ends place ≡ Some side
@@ -63,6 +66,7 @@ pub record IsServedAt (ends : List EngineEnds) (place : ℕ) (caller : Caller) :
   pub heard : List Command
   pub asked : Begins heard caller.library.ends.tail.pushed
   pub kept : Begins heard side.head.popped
+  pub answers : Begins (flat_map answered_by caller.library.ends.head.popped) (flat_map asked_by caller.library.ends.tail.pushed)
 
 -- A library of a run has lived and was replied to in order, with the number behind its place and at a seat for no more sessions than the engine's table has,
 -- and was served at its place.

@@ -1,25 +1,35 @@
 -- What a script leaves.
-use Rattle.std.specs.Prelude.{◌≡◌, ℕ, List, slice_get, Some}
+use Rattle.std.specs.Prelude.{◌≡◌, ℕ, ◌<◌, List, length, slice_get, Some}
+use Rattle.std.specs.List.{All}
+use Rattle.engine_config.specs.Config.{names_of}
+use Rattle.engine_config.specs.declared.config.Config.{Config}
 use Rattle.lease_core.specs.declared.entry.Entry.{Entry}
-use Rattle.library_desk.specs.declared.desk.Stray.{Stray}
 use Rattle.run_laws.specs.Accounted.{IsAccountedRun, LeavesAccounted, first_machines, no_entries}
 use Rattle.run_laws.specs.Lives.{HaveLived}
 use Rattle.script_run.specs.declared.callers.Caller.{Caller}
 use Rattle.script_run.specs.declared.run.Run.{Run}
-use Rattle.run_laws.specs.Reports.{IsBorneOut}
+use Rattle.run_laws.specs.Reports.{IsBorneOut, IsRepliedAtEnd}
 use Rattle.run_report.specs.declared.records.RunRecord.{RunRecord}
 use Rattle.script_text.specs.declared.steps.Script.{Script}
-use Rattle.switchboard.specs.Board.{Board}
+use Rattle.switchboard.specs.Board.{Board, book_at}
 
--- what each library's kept calls say is so
-abbrev pub AllAreBorneOut : (ℕ → List Entry) → Board → List Stray → Run → Type 0
-AllAreBorneOut before board strays run = (place : ℕ) (caller : Caller) → slice_get run.callers.items place ≡ Some caller → IsBorneOut before board strays caller
+-- each library was replied to
+abbrev pub AllAreReplied : (ℕ → List Entry) → Board → Run → Type 0
+AllAreReplied before board run = (place : ℕ) (caller : Caller) → slice_get run.callers.items place ≡ Some caller → IsRepliedAtEnd before board caller
+
+-- the sessions are those that are configured, by their names
+pub record AreSessionsOf (config : Config) (board : Board) : Type 0 where
+  pub count : length board.sessions ≡ length config.names
+  pub names : (s : ℕ) → s < length config.names → (book_at board s).machine.names ≡ names_of config s
 
 -- What a script leaves is accounted for. From the configured sessions on, which had no entry, its steps led to a last run, whose libraries have lived; that left
--- the record, and bears out what its libraries' calls say.
+-- the record, which has the configured sessions and libraries, and bears out what its reports of the libraries say.
 pub record IsAccountedRecord (script : Script) (left : RunRecord) : Type 0 where
   pub last : Run
   pub run : IsAccountedRun no_entries (first_machines script.config) last
   pub lived : HaveLived script.config.asks last
   pub leaves : LeavesAccounted no_entries (first_machines script.config) last left
-  pub borne_out : AllAreBorneOut no_entries leaves.gathered.board last.engine.sessions.strays.items last
+  pub sessions : AreSessionsOf script.config leaves.gathered.board
+  pub libraries : length last.callers.items ≡ script.config.libraries
+  pub replied : AllAreReplied no_entries leaves.gathered.board last
+  pub borne_out : All (IsBorneOut no_entries leaves.gathered.board left.engine.strays) left.libraries

@@ -1,4 +1,4 @@
--- What a run's kept calls of a library say, and that the sessions' logs at its end bear it out.
+-- What a library's report says, and that the sessions' journals and logs at the end of its run bear it out.
 use Rattle.std.specs.Prelude.{◌≡◌, ◌⊎◌, ℕ, ◌-◌, ◌<◌, ◌≤◌, ◌==◌, if◌then◌else◌, List, [], ◌∷◌, ◌++◌, length, map, slice_get, Some, Ok, Err}
 use Rattle.std.specs.List.{All, Contains, flat_map}
 use Rattle.lease_core.specs.declared.entry.Entry.{Entry}
@@ -7,6 +7,7 @@ use Rattle.lease_core.specs.declared.lease.Ending.TheVariants.{GivenBack}
 use Rattle.lease_core.specs.declared.lease.Line.{Line}
 use Rattle.lease_core.specs.declared.messages.Notice.{Notice}
 use Rattle.lease_core.specs.declared.messages.Notice.TheVariants as notices
+use Rattle.library_api.specs.Calls.{numbers_to}
 use Rattle.library_api.specs.Known.{reading_count}
 use Rattle.library_api.specs.Posts.{Post}
 use Rattle.library_api.specs.Reads.{numbers_from, read_by}
@@ -14,12 +15,14 @@ use Rattle.library_api.specs.Replies.{IsRepliedTo}
 use Rattle.library_api.specs.declared.event.Event.{Event}
 use Rattle.library_api.specs.declared.event.Event.TheVariants as events
 use Rattle.library_desk.specs.declared.desk.Stray.{Stray}
-use Rattle.library_laws.specs.Replies.{replies_told, reply_of, stray_told}
+use Rattle.library_laws.specs.Replies.{Ask, answered_by, replies_told, reply_of, stray_told}
 use Rattle.library_laws.specs.Sends.{logged_bodies}
 use Rattle.message_log.specs.declared.entry.OutEntry.{OutEntry}
 use Rattle.script_run.specs.declared.callers.Caller.{Caller}
+use Rattle.run_laws.specs.Sides.{Begins}
 use Rattle.run_report.specs.declared.calls.Call.{Call as Kept}
 use Rattle.run_report.specs.declared.calls.Call.TheVariants as calls
+use Rattle.run_report.specs.declared.records.LibReport.{LibReport}
 use Rattle.session_book.specs.Book.{Book}
 use Rattle.session_book.specs.Sends.{AreSendsOf}
 use Rattle.switchboard.specs.Board.{Board, book_at}
@@ -36,6 +39,19 @@ post_kept s calls.Beat = []
 
 abbrev pub posts_kept : ℕ → List Kept → List Post
 posts_kept s kept = flat_map (post_kept s) kept
+
+-- the request that a call made, by its number and its session
+abbrev pub ask_kept : Kept → List Ask
+ask_kept (calls.Request s from (Ok nr)) = record { nr = nr; s = s } ∷ []
+ask_kept (calls.Request s from (Err why)) = []
+ask_kept (calls.Poll event) = []
+ask_kept (calls.Send s body answer) = []
+ask_kept (calls.Release s answer) = []
+ask_kept (calls.Hand s heir answer) = []
+ask_kept calls.Beat = []
+
+abbrev pub asks_kept : List Kept → List Ask
+asks_kept kept = flat_map ask_kept kept
 
 -- the position of a lease's message, where a poll gave one
 abbrev pub position_kept : ℕ → ℕ → Kept → List ℕ
@@ -117,14 +133,21 @@ pub record AreRepliesTold (library s : ℕ) (before entries : List Entry) (poppe
   pub rest : List Notice
   pub are : replies_told library s entries ≡ replies_told library s before ++ (flat_map (reply_of s) popped ++ rest)
 
--- What a library's kept calls say is so. Each send that was answered Sent is logged, and no other is, and each lease that was given back stands so; of each lease the messages that polls gave have the
--- positions from that on which the journal's grant names, one behind another without a gap; and each reply and each message that a poll gave is told. All its requests were replied to
--- and none is open, or all but the last, which is open; and it was told the replies of each session in the order in which its journal tells them.
-pub record IsBorneOut (before : ℕ → List Entry) (board : Board) (strays : List Stray) (caller : Caller) : Type 0 where
-  pub sends : (s : ℕ) → s < length board.sessions → ArePostsLogged caller.number (before s) (book_at board s) (posts_kept s caller.calls.items)
-  pub reads : (s lease : ℕ) → 0 < lease → s < reading_count → s < length board.sessions → (positions_kept s lease caller.calls.items ≡ [])
-      ⊎ AreFromGrant (replies_told caller.number s (book_at board s).entries) s lease (positions_kept s lease caller.calls.items)
-  pub told : All (HandsOn (IsTold board strays caller.number)) caller.calls.items
+-- What a library's report says is so. Each send that was answered Sent is logged, and no other is, and each lease that was given back stands so. Of each lease
+-- the messages that polls gave have the positions from that on which the journal's grant names, one behind another without a gap; and each reply and each
+-- message that a poll gave is told.
+pub record IsBorneOut (before : ℕ → List Entry) (board : Board) (strays : List Stray) (report : LibReport) : Type 0 where
+  pub sends : (s : ℕ) → s < length board.sessions → ArePostsLogged report.number (before s) (book_at board s) (posts_kept s report.calls)
+  pub given_back : All (GivesBack board report.number) report.calls
+  pub reads : (s lease : ℕ) → 0 < lease → s < reading_count → s < length board.sessions → (positions_kept s lease report.calls ≡ [])
+      ⊎ AreFromGrant (replies_told report.number s (book_at board s).entries) s lease (positions_kept s lease report.calls)
+  pub told : All (HandsOn (IsTold board strays report.number)) report.calls
+
+-- The requests that a library's calls made have the numbers 1, 2 and so on. The replies that it popped are those of its first requests, in order, by number and
+-- session. All were replied to and none is open, or all but the last, which is open. It was told the replies of each session in the order in which its journal
+-- tells them.
+pub record IsRepliedAtEnd (before : ℕ → List Entry) (board : Board) (caller : Caller) : Type 0 where
+  pub numbers : map (λ (ask : Ask). ask.nr) (asks_kept caller.calls.items) ≡ numbers_to caller.library.asked
+  pub answers : Begins (flat_map answered_by caller.library.ends.head.popped) (asks_kept caller.calls.items)
   pub replied : IsRepliedTo caller.library
   pub replies : (s : ℕ) → s < length board.sessions → AreRepliesTold caller.number s (before s) (book_at board s).entries caller.library.ends.head.popped
-  pub given_back : All (GivesBack board caller.number) caller.calls.items

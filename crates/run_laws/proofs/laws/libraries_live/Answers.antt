@@ -1,12 +1,23 @@
 use Rattle.std.proofs.Common.{ℕ, List}
 use Rattle.lease_core.specs.declared.entry.Entry.{Entry}
+use Rattle.run_laws.proofs.GoingOn.{GoingLaws}
 use Rattle.run_laws.proofs.Carried.{Laws}
 use Rattle.run_laws.proofs.Lived.{carried, carried_out, first_lived}
 use Rattle.run_laws.proofs.laws.libraries_live.Goals as goal
 use Rattle.session_core.specs.State.{State}
 
+going : goal.After-sends_are_taken → GoingLaws
+going c = record {
+  itself = c.boards_go_on.ensures.itself;
+  further = c.boards_go_on.ensures.further;
+  runs = c.boards_go_on.ensures.run;
+  joins = c.boards_stay_ready.ensures.further;
+  serves = c.serving_happens.ensures.serves;
+}
+
 laws : goal.After-sends_are_taken → (before : ℕ → List Entry) (start : ℕ → State) → Laws before start
 laws c before start = record {
+  going = going c;
   turn_ready = c.turns_are_accounted_for.ensures.ready before;
   turn_account = c.turns_are_accounted_for.ensures.account before start;
   turn_answered = c.requests_are_answered.ensures.turn before;

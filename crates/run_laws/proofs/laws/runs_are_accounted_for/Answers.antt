@@ -5,6 +5,7 @@ use Rattle.lease_core.specs.declared.entry.Entry.{Entry}
 use Rattle.library_laws.specs.Replies.{AreAnswered}
 use Rattle.library_laws.specs.Sends.{AreTaken}
 use Rattle.run_laws.specs.Accounted.{no_entries}
+use Rattle.run_laws.proofs.GoingOn.{GoingLaws}
 use Rattle.run_laws.proofs.Carried.{Laws, carried, carried_out, left_behind}
 use Rattle.run_laws.proofs.Starts.{by_machines, cursors_are, none_before, not_owned, numbered}
 use Rattle.run_laws.proofs.laws.runs_are_accounted_for.Goals as goal
@@ -12,8 +13,18 @@ use Rattle.session_core.specs.State.{State}
 use Rattle.switchboard.specs.Ready.{IsReady, entries_of}
 use Rattle.switchboard.specs.Told.{machines_of}
 
+going : goal.After-sends_are_taken → GoingLaws
+going c = record {
+  itself = c.boards_go_on.ensures.itself;
+  further = c.boards_go_on.ensures.further;
+  runs = c.boards_go_on.ensures.run;
+  joins = c.boards_stay_ready.ensures.further;
+  serves = c.serving_happens.ensures.serves;
+}
+
 laws : goal.After-sends_are_taken → (before : ℕ → List Entry) (start : ℕ → State) → Laws before start
 laws c before start = record {
+  going = going c;
   turn_ready = c.turns_are_accounted_for.ensures.ready before;
   turn_account = c.turns_are_accounted_for.ensures.account before start;
   turn_answered = c.requests_are_answered.ensures.turn before;
