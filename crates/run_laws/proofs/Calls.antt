@@ -30,7 +30,7 @@ use Rattle.library_api.specs.declared.waited.WaitKind.TheVariants.{Free}
 use Rattle.run_laws.specs.Lives.{IsKeptAs}
 use Rattle.run_report.specs.declared.calls.Call.{Call as Kept}
 use Rattle.run_report.specs.declared.calls.Call.TheVariants as calls
-use Rattle.script_run.specs.Calls.{Hands, MakesCall, Polls, Releases, Requests, SendsTo}
+use Rattle.library_calls.specs.Calls.{Hands, MakesCall, Polls, Releases, Requests, SendsTo}
 use Rattle.script_text.specs.declared.steps.LibStep.{LibStep}
 use Rattle.script_text.specs.declared.steps.LibStep.TheVariants as act
 

@@ -1,5 +1,5 @@
 -- What a script means: the run from its beginning over its steps, and what that leaves.
-use Rattle.std.specs.Prelude.{◌≡◌, ℕ, ◌+◌, Bool, count_by, true, false, List, [], ◌∷◌, length, map, slice_get, Some}
+use Rattle.std.specs.Prelude.{◌≡◌, ℕ, ◌+◌, true, List, [], ◌∷◌, length, map, slice_get, Some}
 use Rattle.engine_config.specs.declared.config.Config.{Config}
 use Rattle.engine_end.specs.Finishing.{Finishes}
 use Rattle.engine_loop.specs.Engines.{until_of}
@@ -12,12 +12,9 @@ use Rattle.gate_io.specs.StepClock.{ClockState}
 use Rattle.lease_words.specs.Tokens.{new_library_seat}
 use Rattle.lease_words.specs.Views.{LibraryView}
 use Rattle.library_api.specs.Known.{new_library}
-use Rattle.library_api.specs.declared.event.Event.{Event}
-use Rattle.library_api.specs.declared.event.Event.TheVariants as events
+use Rattle.library_calls.specs.Reads.{reads_of}
 use Rattle.library_desk.specs.declared.shared.Shared.{Shared}
 use Rattle.ring_links.specs.Ends.{new_head, new_tail}
-use Rattle.run_report.specs.declared.calls.Call.{Call}
-use Rattle.run_report.specs.declared.calls.Call.TheVariants as calls
 use Rattle.run_report.specs.declared.records.LibReport.{LibReport}
 use Rattle.run_report.specs.declared.records.RunRecord.{RunRecord}
 use Rattle.script_run.specs.Runs.{CarriesOut, IsCaller}
@@ -83,28 +80,6 @@ pub record StartsRun (config : Config) (moment : ℕ) (shared : Shared) (run : R
   pub callers : StartsCallers config.asks shared run.callers.items
   pub wire : run.wire ≡ new_wire
   pub clock : run.clock ≡ first_clock
-
--- a message that a poll gave
-abbrev pub is_read : Event → Bool
-is_read (events.Message s lease pos bytes) = true
-is_read events.Nothing = false
-is_read (events.NotYet s pos published) = false
-is_read (events.Granted nr s lease from start) = false
-is_read (events.Refused nr s why) = false
-is_read (events.Stale s lease pos) = false
-is_read (events.LeaseLost s lease seen) = false
-
-abbrev pub gives_message : Call → Bool
-gives_message (calls.Poll event) = is_read event
-gives_message (calls.Request s from answer) = false
-gives_message (calls.Send s body answer) = false
-gives_message (calls.Release s answer) = false
-gives_message (calls.Hand s heir answer) = false
-gives_message calls.Beat = false
-
--- how many messages these calls gave
-abbrev pub reads_of : List Call → ℕ
-reads_of made = count_by gives_message made
 
 -- what a run leaves of a library: it made all its calls
 abbrev pub report_of : Caller → LibReport

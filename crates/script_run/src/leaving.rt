@@ -4,7 +4,7 @@ ghost use Rattle.std.specs.Prelude.{◌≡◌, ◌≤◌, [], IfErr, IfOk, lengt
 ghost use Rattle.std.specs.List.{All};
 ghost use Rattle.engine_end.specs.Records.{HasLawfulJournal};
 ghost use Rattle.lease_words.specs.Views.{LibraryView};
-ghost use Rattle.script_run.specs.Means.{Leaves, gives_message, reads_of, report_of, seat_of};
+ghost use Rattle.script_run.specs.Means.{Leaves, report_of, seat_of};
 ghost use Rattle.script_run.specs.Runs.{IsRunning};
 
 use crate::callers::Caller;
@@ -12,9 +12,9 @@ use crate::run::Run;
 use engine_loop::Engine;
 use gate_io::{NoMemory, Rows};
 use lease_words::LibrarySeat;
-use library_api::Event;
+use library_calls::reads_of;
 use library_desk::Shared;
-use run_report::{Call, LibReport, RunRecord};
+use run_report::{LibReport, RunRecord};
 use std::alloc::Global;
 use std::marker::Model;
 
@@ -94,25 +94,6 @@ fn part(caller: Caller) -> (LibrarySeat, LibReport)
         waited: library.waited(),
     };
     (library.seat(), report)
-}
-
-// How many messages these calls gave.
-fn reads_of(calls: &[Call]) -> u64
-    ensures { result ≡ reads_of calls.now }
-{
-    calls.iter().filter(|call| gives_message(call)).count() as u64
-}
-
-// Whether a call gave a message.
-fn gives_message(call: &Call) -> bool
-    ensures { result ≡ gives_message call.now }
-{
-    matches!(
-        call,
-        Call::Poll {
-            event: Event::Message { .. }
-        }
-    )
 }
 
 impl Run {
