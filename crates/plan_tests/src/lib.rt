@@ -1,0 +1,5 @@
+//! Tests of a library's plan, by its public call.
+#![tactic(auto)]
+
+#[cfg(test)]
+mod plans;
