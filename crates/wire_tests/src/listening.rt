@@ -1,0 +1,63 @@
+//! Where a wire listens, and what it answers with nobody there.
+
+use crate::sides::{address_of, listening, settle};
+use gate_io::{Accepted, Dial, Dialled, Listened, Wire, WireGot};
+use std::test::Fail;
+use wire_edge::NetWire;
+
+#[test]
+fn nothing_before_the_listen(rt: HostRuntime) {
+    let mut wire = NetWire::new(rt, rt.alloc());
+    assert_eq!(rt; wire.port(), None);
+    assert_eq!(rt; wire.accept(), Accepted::Nothing);
+    assert_eq!(rt; wire.dial("127.0.0.1:1"), Dialled::Failed);
+    wire.pause(1);
+    wire.finish();
+}
+
+#[test]
+fn addresses_at_which_nothing_listens(rt: HostRuntime) -> Result<(), Fail> {
+    let mut wire = NetWire::new(rt, rt.alloc());
+    for address in ["", "127.0.0.1", "127.0.0.1:", "127.0.0.1:65536", ":"] {
+        assert_eq!(rt; wire.listen(address), Listened::Failed, "at {address}");
+    }
+    Ok(())
+}
+
+#[test]
+fn a_port_is_taken_by_the_first_that_listens(rt: HostRuntime) -> Result<(), Fail> {
+    let first = listening(rt)?;
+    let address = address_of(rt, &first)?;
+    let mut wire = NetWire::new(rt, rt.alloc());
+    assert_eq!(rt; wire.listen(address.as_str()), Listened::Failed);
+    assert_eq!(rt; wire.listen("127.0.0.1:0"), Listened::Ready);
+    assert_eq!(rt; wire.accept(), Accepted::Nothing);
+    Ok(())
+}
+
+#[test]
+fn addresses_that_cannot_be_dialled(rt: HostRuntime) -> Result<(), Fail> {
+    let mut wire = listening(rt)?;
+    for address in ["", "127.0.0.1", "127.0.0.1:", "127.0.0.1:65536", ":"] {
+        assert_eq!(rt; wire.dial(address), Dialled::Failed, "at {address}");
+    }
+    Ok(())
+}
+
+#[test]
+fn a_refused_dial_is_a_failed_read(rt: HostRuntime) -> Result<(), Fail> {
+    let gone = listening(rt)?;
+    let address = address_of(rt, &gone)?;
+    gone.finish();
+    let mut wire = listening(rt)?;
+    let mut buf = [0u8; 8];
+    assert_eq!(rt; wire.dial(address.as_str()), Dialled::New(1024));
+    settle(&mut wire);
+    assert_eq!(rt; wire.read(1024, &mut buf), WireGot::Failed);
+    wire.close(1024);
+    // The next dial is a connection of its own.
+    assert_eq!(rt; wire.dial(address.as_str()), Dialled::New(1025));
+    settle(&mut wire);
+    assert_eq!(rt; wire.read(1025, &mut buf), WireGot::Failed);
+    Ok(())
+}
