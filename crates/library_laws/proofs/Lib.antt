@@ -1,13 +1,13 @@
 mod Quiet
 mod Stays
-mod Steps
+pub mod Steps
 mod Told
 mod Ends
 mod Orders
 mod Served
 mod Going
 mod Fed
-mod Turns
+pub mod Turns
 mod Sent
 mod Lanes
 mod Taken

@@ -35,7 +35,7 @@ use Rattle.run_laws.proofs.Wires.{comes_on, room_on, same_on}
 use Rattle.run_laws.proofs.Places.{each_behind}
 use Rattle.run_laws.proofs.Settled.{leases_stand}
 use Rattle.run_laws.proofs.GoingOn.{GoingLaws, all_gathered, made_turn}
-use Rattle.run_laws.proofs.Steps.{each_in_turn}
+use Rattle.library_laws.proofs.Steps.{each_in_turn}
 use Rattle.run_report.specs.declared.records.RunRecord.{RunRecord}
 use Rattle.script_run.specs.Calls.{CallsAs}
 use Rattle.script_run.specs.Means.{Leaves, seat_of}

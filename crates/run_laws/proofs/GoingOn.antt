@@ -14,8 +14,8 @@ use Rattle.library_desk.specs.declared.desk.LibraryDesk.{LibraryDesk}
 use Rattle.library_desk.specs.declared.serving.LibTurn.{LibTurn}
 use Rattle.run_laws.specs.Sides.{DeskGoesOn, RunGoesOn}
 use Rattle.run_laws.proofs.Sides.{begins_same, desk_alone, ends_change, goes_further, goes_itself, served}
-use Rattle.run_laws.proofs.Steps.{IsKept, each_in_turn, gathered_in_turn}
-use Rattle.run_laws.proofs.Turns.{turn_made}
+use Rattle.library_laws.proofs.Steps.{IsKept, each_in_turn, gathered_in_turn}
+use Rattle.library_laws.proofs.Turns.{turn_made}
 use Rattle.script_run.specs.declared.run.Run.{Run}
 use Rattle.script_run.specs.Runs.{CallsAt, CallsBetween, Carries, CarriesAt, CarriesOut, Meets, TurnsOver, with_room}
 use Rattle.script_text.specs.declared.steps.LibStep.{LibStep}

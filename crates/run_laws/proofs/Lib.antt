@@ -11,7 +11,5 @@ mod Places
 mod Settled
 mod Sides
 mod Starts
-mod Steps
 mod Told
-mod Turns
 mod Wires

@@ -32,7 +32,7 @@ use Rattle.run_laws.proofs.Numbers.{answers_met, replies_met}
 use Rattle.run_laws.proofs.Places.{OfEach, each_behind, get_set_other, get_set_same}
 use Rattle.run_laws.proofs.Sides.{begins_further, begins_itself}
 use Rattle.run_laws.proofs.Starts.{past_end}
-use Rattle.run_laws.proofs.Steps.{each_in_turn}
+use Rattle.library_laws.proofs.Steps.{each_in_turn}
 use Rattle.run_report.specs.declared.calls.Call.{Call as Kept}
 use Rattle.script_run.specs.Calls.{CallsAs}
 use Rattle.script_run.specs.Means.{StartsRun}

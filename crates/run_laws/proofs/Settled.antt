@@ -15,7 +15,7 @@ use Rattle.lease_words.specs.Views.{EngineView, LibraryView, engine_at, library_
 use Rattle.lease_words.specs.declared.view.LibraryKnows.{LibraryKnows}
 use Rattle.library_desk.specs.declared.desk.LibraryDesk.{LibraryDesk}
 use Rattle.run_laws.specs.Accounted.{AllLeasesStand}
-use Rattle.run_laws.proofs.Steps.{each_in_turn}
+use Rattle.library_laws.proofs.Steps.{each_in_turn}
 use Rattle.session_book.specs.Records.{Pending}
 
 each_front : {A : Type 0} (P : A → Type 0) (xs ys : List A) → Each P (xs ++ ys) → Each P xs

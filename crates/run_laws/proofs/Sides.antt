@@ -18,7 +18,7 @@ use Rattle.library_desk.specs.declared.serving.LibTurn.{LibTurn}
 use Rattle.library_desk.specs.declared.serving.LibTurn.TheVariants as turns
 use Rattle.run_laws.specs.Sides.{Begins, EndsGoOn, SidesGoOn}
 use Rattle.run_laws.proofs.Places.{get_set_other, get_set_same}
-use Rattle.run_laws.proofs.Steps.{each_in_turn}
+use Rattle.library_laws.proofs.Steps.{each_in_turn}
 
 pub begins_itself : {T : Type 0} (xs : List T) → Begins xs xs
 begins_itself xs = record { rest = []; is = append-nil xs }
