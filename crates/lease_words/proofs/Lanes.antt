@@ -1,5 +1,6 @@
 -- What the steps of a session do to each lane.
 use Rattle.std.proofs.Common.{◌≡◌, ◌≢◌, ℕ, zero, suc, ◌+◌, ◌-◌, ◌<◌, ◌≤◌, ◌⊎◌, List, [], ◌∷◌, ◌++◌, length, Bool, true, false, refl, sym, ap, ◌∙◌, subst, inl, inr, ⊎_elim, arith}
+use Rattle.std.proofs.lemmas.Option.{slice_get_within}
 use Rattle.std.specs.Prelude.{slice_get, Some, ◌&&◌, ◌==◌, nat_lt, if◌then◌else◌}
 use Rattle.std.proofs.lemmas.List.{length-append}
 use Rattle.std.proofs.lemmas.Bool.{and_parts, ltb-true, eqb-true}
@@ -18,7 +19,7 @@ use Rattle.lease_core.specs.Lines.{granted_line}
 use Rattle.lease_words.specs.Sees.{release_ending}
 use Rattle.lease_words.specs.Facts.{Lane, IsLane}
 use Rattle.lease_words.proofs.Lists.{each_two}
-use Rattle.lease_words.proofs.Lines.{GoesOn, as_front, get_push, get_push_before, get_push_here, get_within, granted_push, total_push, running_above}
+use Rattle.lease_words.proofs.Lines.{GoesOn, as_front, get_push, get_push_before, get_push_here, granted_push, total_push, running_above}
 
 each_map : {A : Type 0} (P Q : A → Type 0) (xs : List A) → ((x : A) → P x → Q x) → Each P xs → Each Q xs
 each_map P Q [] f all = tt
@@ -381,7 +382,7 @@ module _ (base libraries depth : ℕ) where
   held_line lines library lane are is some =
       let n : ℕ = held_lease lane.leases in
       let s = held_stands base library lines lane.leases some is.stands in
-      let within : n - 1 < length lines = get_within lines s.line (n - 1) s.at in
+      let within : n - 1 < length lines = slice_get_within lines (n - 1) s.line s.at in
       let more : 0 < length lines = omega arith in
       let t = as_front lines more in (
         (λ less. inl less),
@@ -467,7 +468,7 @@ module _ (base libraries depth : ℕ) where
   lost_by lines library lane are is last some l at whose =
       let n : ℕ = held_lease lane.leases in
       let some' : 0 < n = some in
-      let within : n - 1 < length lines = get_within lines l (n - 1) at in
+      let within : n - 1 < length lines = slice_get_within lines (n - 1) l at in
       ⊎_elim
       (λ (less : suc (n - 1) < length lines). are.ended (n - 1) l at (inl less))
       (λ (here : suc (n - 1) ≡ length lines).

@@ -1,5 +1,6 @@
 -- A library's steps as the calls make them, and what the calls owe its seat.
 use Rattle.std.proofs.Common.{Result, Ok, Err, Bool, true, false, eqb, eq-eqb, ne_eqb, ◌≡◌, ◌≢◌, ℕ, ◌+◌, ◌-◌, ◌^◌, ◌<◌, ◌≤◌, List, [], length, get_or, set, Option, refl, sym, ap, ◌∙◌, subst, arith}
+use Rattle.std.proofs.lemmas.Bool.{cond-true, cond-false}
 use Rattle.std.specs.Prelude.{IfOk, OnOk, IfErr, if◌then◌else◌}
 use Rattle.std.proofs.lemmas.Bool.Decides.{when_true, when_false}
 use Rattle.std.proofs.lemmas.List.{length-map}
@@ -25,7 +26,7 @@ use Rattle.lease_words.specs.Answers.{released_word, IsLoss}
 use Rattle.lease_words.specs.Rule.{Ruled}
 use Rattle.lease_words.specs.Tells.{Seated, HasFoundWord, SeeOf, SeeTells, ArriveOf, ArriveTells, BeatTells, ReleaseOf, ReleaseTells, held_word, library_numbers}
 use Rattle.lease_words.specs.Tokens.{library_row, CountsFit, IsLibrary}
-use Rattle.lease_words.proofs.Lines.{if_true, if_false, word_parts}
+use Rattle.lease_words.proofs.Lines.{word_parts}
 use Rattle.lease_words.proofs.Places.{session-lease_word, session-published_word}
 use Rattle.lease_words.proofs.Publishes.{arrives_at, beats_at}
 use Rattle.lease_words.proofs.LibraryHolds.{no_word, held_as_word, held_number, given_word, given_count, lost_word, lost_count, seen_count}
@@ -54,10 +55,10 @@ if_err_none P r v is = subst (λ r. IfErr r P) (sym is) tt
 
 -- what a seat holds that saw a word
 pub holds_shown : (b : Bool) (n r : ℕ) → b ≡ true → n ≡ r → n ≡ (if b then r else 0)
-holds_shown b n r shows is = is ∙ sym (if_true b r 0 shows)
+holds_shown b n r shows is = is ∙ sym (cond-true b r 0 shows)
 
 pub holds_none : (b : Bool) (n r : ℕ) → b ≡ false → n ≡ 0 → n ≡ (if b then r else 0)
-holds_none b n r shows is = is ∙ sym (if_false b r 0 shows)
+holds_none b n r shows is = is ∙ sym (cond-false b r 0 shows)
 
 nothing : (word_in 0).lease ≡ 0
 unfolding word_in

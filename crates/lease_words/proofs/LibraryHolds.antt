@@ -1,7 +1,8 @@
 -- The lease that a library holds, and the word that it keeps of it.
 use Rattle.std.proofs.Common.{◌≡◌, ◌≢◌, ℕ, suc, ◌+◌, ◌-◌, ◌*◌, ◌^◌, ◌<◌, ◌≤◌, ◌⊎◌, List, [], ◌∷◌, ◌++◌, length, Bool, true, false, eqb, cond, refl, sym, ap, ◌∙◌, subst, inl, inr, ⊎_elim, arith, eq-eqb, ne_eqb}
+use Rattle.std.proofs.lemmas.Option.{slice_get_within}
 use Rattle.std.specs.Prelude.{◌==◌, ◌&&◌, nat_lt, if◌then◌else◌}
-use Rattle.std.proofs.lemmas.Bool.{and_parts, ltb-true, eqb-true}
+use Rattle.std.proofs.lemmas.Bool.{and_parts, ltb-true, eqb-true, cond-true, cond-false}
 use Rattle.lease_core.specs.declared.lease.Ending.{Ending}
 use Rattle.lease_core.specs.declared.lease.Ending.TheVariants.{Running, GivenBack, TakenBack}
 use Rattle.lease_core.specs.declared.lease.Line.{Line}
@@ -17,7 +18,7 @@ use Rattle.lease_words.specs.Leases.{Each, AreLines, Stands, FitsEnding, AllEnde
 use Rattle.lease_words.specs.Sees.{release_ending}
 use Rattle.lease_words.specs.Facts.{Lane, IsLane}
 use Rattle.lease_words.specs.Tells.{held_word}
-use Rattle.lease_words.proofs.Lines.{word_of_push, word_parts, active_number, if_true, if_false, length_push, last_is, get_within}
+use Rattle.lease_words.proofs.Lines.{word_of_push, word_parts, active_number, length_push, last_is}
 use Rattle.lease_words.proofs.Lanes.{held_line, held_stands, shown_runs}
 
 held_none : (e : Ending) (n : ℕ) → runs e ≡ false → held_by e n ≡ 0
@@ -40,7 +41,7 @@ count_ended f [] ended = refl
 count_ended f (h ∷ hs) ended = held_none (f h.ending) h.count (ended h.ending)
 
 pub no_word : (library : ℕ) (leases : List LibraryLease) → held_lease leases ≡ 0 → held_word library leases ≡ 0
-no_word library leases none = if_true (eqb (held_lease leases) 0) 0 (held_lease leases * 2 ^ 40 + library * 2 ^ 34 + held_count leases) (eq-eqb (held_lease leases) 0 none)
+no_word library leases none = cond-true (eqb (held_lease leases) 0) 0 (held_lease leases * 2 ^ 40 + library * 2 ^ 34 + held_count leases) (eq-eqb (held_lease leases) 0 none)
 
 pub lost_word : (library : ℕ) (leases : List LibraryLease) → held_word library (with_first_ending loss_ending leases) ≡ 0
 lost_word library leases = no_word library (with_first_ending loss_ending leases) (lease_ended loss_ending leases lost_runs)
@@ -59,7 +60,7 @@ abbrev pub held_as_word : ℕ → List LibraryLease → Word
 held_as_word library leases = record { lease = held_lease leases; owner = library; standing = Active; count = held_count leases }
 
 some_word : (library : ℕ) (leases : List LibraryLease) → 0 < held_lease leases → held_word library leases ≡ held_lease leases * 2 ^ 40 + library * 2 ^ 34 + held_count leases
-some_word library leases some = if_false (eqb (held_lease leases) 0) 0 (held_lease leases * 2 ^ 40 + library * 2 ^ 34 + held_count leases) (ne_eqb (held_lease leases) 0 (λ e. omega arith))
+some_word library leases some = cond-false (eqb (held_lease leases) 0) 0 (held_lease leases * 2 ^ 40 + library * 2 ^ 34 + held_count leases) (ne_eqb (held_lease leases) 0 (λ e. omega arith))
 
 active_sum : (lease owner count : ℕ) → lease * 2 ^ 40 + owner * 2 ^ 34 + count ≡ number_of (record { lease = lease; owner = owner; standing = Active; count = count })
 unfolding number_of
@@ -223,7 +224,7 @@ still_running TakenBack fits = absurd (let no : Running ≡ TakenBack = fits in 
 module _ (base library : ℕ) (lines : List Line) (shows : shows_lease library (word_of lines) ≡ true) where
   lease_below : (h : LibraryLease) → (h.ending ≡ Running → h.lease ≢ length lines) → Stands base lines library h → h.lease < length lines
   lease_below h free stands =
-      let within : h.lease - 1 < length lines = get_within lines stands.line (h.lease - 1) stands.at in
+      let within : h.lease - 1 < length lines = slice_get_within lines (h.lease - 1) stands.line stands.at in
       let above : base < h.lease = stands.above in
       elim (ℕ_discrete h.lease (length lines)) [
         | yes same ↦

@@ -1,7 +1,7 @@
 -- What a library sees keeps the rule, and so does its giving a session back.
 use Rattle.std.proofs.Common.{◌≡◌, ◌≢◌, ℕ, suc, ◌^◌, ◌<◌, ◌≤◌, List, [], ◌∷◌, ◌++◌, length, get_or, Bool, true, false, eqb, Option, Some, refl, sym, ap, ◌∙◌, subst, inr, ⊎_elim, arith, append-nil, cond, eq-eqb, ne_eqb}
 use Rattle.std.specs.Prelude.{MatchBool, slice_get}
-use Rattle.std.proofs.lemmas.Bool.{eqb-true, eqb-false, cases_eq}
+use Rattle.std.proofs.lemmas.Bool.{eqb-true, eqb-false, cases_eq, cond-true, cond-false}
 use mathlib.Core.Option.{none, some}
 use lib.ListN.{get_elem?}
 use prog.Atomic.{either}
@@ -25,7 +25,7 @@ use Rattle.lease_words.specs.Facts.{Lane, Session, IsLane, LibraryFits}
 use Rattle.lease_words.specs.Views.{base_of, library_session, with_library_session, library_view}
 use Rattle.lease_words.specs.Rule.{Ruled, LibraryKnowsSo}
 use Rattle.lease_words.specs.Tells.{LibraryNumbers, library_numbers, HasFoundWord, SeeOf, ReleaseOf, HasLost, Seated, SeeTells, ReleaseTells, held_word}
-use Rattle.lease_words.proofs.Lines.{shown_not_newer, if_true, if_false, GoesOn, shown_on, get_push_here, word_of_push, word_parts, words_shown}
+use Rattle.lease_words.proofs.Lines.{shown_not_newer, GoesOn, shown_on, get_push_here, word_of_push, word_parts, words_shown}
 use Rattle.lease_words.proofs.Lanes.{lane_seen, lane_given}
 use Rattle.lease_words.proofs.Places.{session-lease_word}
 use Rattle.lease_words.proofs.Seats.{each_map}
@@ -35,14 +35,14 @@ use Rattle.lease_words.proofs.LibrarySteps.{Table, Keeps, lost_rule, has_lost, e
 -- the heir that a library names is another than itself, and the word shows the owner that was asked for
 heir_of : (owner most library : ℕ) → 1 ≤ library → owner ≤ most → (heir_named owner library ≤ most) × (heir_named owner library ≢ library)
 heir_of owner most library one few = ⊎_elim
-    (λ (same : owner ≡ library). let e : heir_named owner library ≡ 0 = if_true (eqb owner library) 0 owner (eq-eqb owner library same) in (omega arith, λ h. omega arith))
-    (λ other. let e : heir_named owner library ≡ owner = if_false (eqb owner library) 0 owner (ne_eqb owner library other) in (omega arith, λ h. other (sym e ∙ h)))
+    (λ (same : owner ≡ library). let e : heir_named owner library ≡ 0 = cond-true (eqb owner library) 0 owner (eq-eqb owner library same) in (omega arith, λ h. omega arith))
+    (λ other. let e : heir_named owner library ≡ owner = cond-false (eqb owner library) 0 owner (ne_eqb owner library other) in (omega arith, λ h. other (sym e ∙ h)))
     (cases_eq owner library)
 
 owner_shown : (owner library : ℕ) → 1 ≤ owner → shown_owner (GivenBack (heir_named owner library)) library ≡ owner
 owner_shown owner library one = ⊎_elim
-    (λ (same : owner ≡ library). ap (λ (h : ℕ). cond (eqb h 0) library h) (if_true (eqb owner library) 0 owner (eq-eqb owner library same)) ∙ sym same)
-    (λ other. ap (λ (h : ℕ). cond (eqb h 0) library h) (if_false (eqb owner library) 0 owner (ne_eqb owner library other)) ∙ if_false (eqb owner 0) library owner (ne_eqb owner 0 (λ e. omega arith)))
+    (λ (same : owner ≡ library). ap (λ (h : ℕ). cond (eqb h 0) library h) (cond-true (eqb owner library) 0 owner (eq-eqb owner library same)) ∙ sym same)
+    (λ other. ap (λ (h : ℕ). cond (eqb h 0) library h) (cond-false (eqb owner library) 0 owner (ne_eqb owner library other)) ∙ cond-false (eqb owner 0) library owner (ne_eqb owner 0 (λ e. omega arith)))
     (cases_eq owner library)
 
 module _ (k : Shape) (id : ℕ) (l : LibraryKnows) (s : ℕ) (here : s < k.sessions) where

@@ -2,7 +2,7 @@
 use Rattle.std.proofs.Common.{◌≡◌, ◌≢◌, ℕ, zero, suc, ◌+◌, ◌-◌, ◌*◌, ◌<◌, ◌≤◌, ◌⊎◌, List, [], ◌∷◌, ◌++◌, length, Bool, true, false, refl, sym, ap, ◌∙◌, subst, inl, inr, ⊎_elim, cond, eqb, ltb, leb, ◌/◌, ◌%◌, arith, length-append, suc-mul}
 use Rattle.std.specs.Prelude.{◌&&◌, slice_get, Some, None, bit_or, ◌^◌}
 use Rattle.std.proofs.lemmas.Option.{slice_get_within}
-use Rattle.std.proofs.lemmas.Bool.{and_parts, ltb-true, eq-eqb, ne_eqb, lt-ltb, le-leb}
+use Rattle.std.proofs.lemmas.Bool.{and_parts, cond-true, cond-false, ltb-true, eq-eqb, ne_eqb, lt-ltb, le-leb}
 use Rattle.std.proofs.lemmas.Nat.{div-mul-add, mod-mul-add}
 use Rattle.std.proofs.lemmas.Nat.Bits.{and_pow}
 use Rattle.std.proofs.Math.Nat.{div-div-eq-div-mul}
@@ -100,17 +100,6 @@ get_push [] x l (suc k) at = absurd (let e : None ≡ Some l = at in cc)
 get_push (y ∷ ys) x l zero at = inr (omega arith, at)
 get_push (y ∷ ys) x l (suc k) at = ⊎_elim (λ h. inl (ap suc h.0, h.1)) (λ h. inr (let less = h.0 in omega arith, h.1)) (get_push ys x l k at)
 
-pub get_within : (lines : List Line) (l : Line) (k : ℕ) → slice_get lines k ≡ Some l → k < length lines
-get_within lines l k at = slice_get_within lines k l at
-
-pub if_true : {A : Type 0} (b : Bool) (x y : A) → b ≡ true → cond b x y ≡ x
-if_true true x y e = refl
-if_true false x y e = absurd (let no : false ≡ true = e in cc)
-
-pub if_false : {A : Type 0} (b : Bool) (x y : A) → b ≡ false → cond b x y ≡ y
-if_false false x y e = refl
-if_false true x y e = absurd (let no : true ≡ false = e in cc)
-
 -- the line's own word raises it to itself
 raised_own : (ending : Ending) (library sends : ℕ) → 0 < owner_in ending library → ending_by (standing_of ending) (shown_owner ending library) library ending ≡ ending
 raised_own Running library sends some = refl
@@ -140,10 +129,10 @@ raises_on : (n m : ℕ) (was now : Line) → n ≡ m → was.ending ≡ Running 
 raises_on n m was now same ran some more = rw (ran, eq-eqb n m same, lt-ltb 0 was.library some, le-leb was.sends now.sends more) refl
 
 heir_same : (heir library : ℕ) → heir ≢ library → heir_named (shown_owner (GivenBack heir) library) library ≡ heir
-heir_same zero library other = if_true (eqb library library) 0 library (eq-eqb library library refl)
+heir_same zero library other = cond-true (eqb library library) 0 library (eq-eqb library library refl)
 heir_same (suc heir) library other =
-    let named : shown_owner (GivenBack (suc heir)) library ≡ suc heir = if_false (eqb (suc heir) 0) library (suc heir) (ne_eqb (suc heir) 0 (λ e. omega arith)) in
-    ap (λ o. heir_named o library) named ∙ if_false (eqb (suc heir) library) 0 (suc heir) (ne_eqb (suc heir) library other)
+    let named : shown_owner (GivenBack (suc heir)) library ≡ suc heir = cond-false (eqb (suc heir) 0) library (suc heir) (ne_eqb (suc heir) 0 (λ e. omega arith)) in
+    ap (λ o. heir_named o library) named ∙ cond-false (eqb (suc heir) library) 0 (suc heir) (ne_eqb (suc heir) library other)
 
 ending_on : (was now : Line) → was.ending ≡ Running → now.library ≡ was.library → IsLineOf 16 now → (now.ending ≡ Running) ⊎ ((heir : ℕ) × (now.ending ≡ GivenBack heir))
     → ending_by (standing_of now.ending) (shown_owner now.ending now.library) was.library was.ending ≡ now.ending
@@ -163,7 +152,7 @@ raised_on front was now ran whose more known ending =
     ap (λ e. record { library = was.library; sends = now.sends; ending = e }) e
     ∙ ap (λ k. record { library = k; sends = now.sends; ending = now.ending }) (sym whose) in
     ap (λ v. raised (front ++ was ∷ []) v) (word_of_push front now)
-    ∙ (if_true (raises (front ++ was ∷ []) w) (with_last (raised_line w) (front ++ was ∷ [])) (front ++ was ∷ []) news
+    ∙ (cond-true (raises (front ++ was ∷ []) w) (with_last (raised_line w) (front ++ was ∷ [])) (front ++ was ∷ []) news
     ∙ (with_last_of_push (raised_line w) front was ∙ ap (λ l. front ++ l ∷ []) line))
 
 -- what the engine sees makes its lines the session's
@@ -265,7 +254,7 @@ fits_ended w l fits not_active = fits_ended_by w.standing w.lease w.owner w.coun
 pub shown_not_newer : (lines : List Line) (w : Word) → IsShown lines w → IsNotOlder w (word_of lines)
 shown_not_newer lines w (inl opens) = rw opens (record { lease = omega arith; count = λ _. omega arith; ended = λ _ not_active. absurd (let e : true ≡ false = not_active in cc) })
 shown_not_newer lines w (inr (l, by)) =
-    let within = get_within lines l (w.lease - 1) by.line in
+    let within = slice_get_within lines (w.lease - 1) l by.line in
     let some = by.lease in
     let last : w.lease ≡ length lines → last_or no_line lines ≡ l = λ same. last_is no_line lines l (w.lease - 1) by.line (omega arith) in
     record {

@@ -1,6 +1,7 @@
 -- A new table is under its rule: its lease words are those of the lines from before it, its other words are 0, its slots empty, and its one seat is
 -- that of the engine and of each library.
 use Rattle.std.proofs.Common.{◌≡◌, ◌≢◌, ℕ, zero, suc, ◌+◌, ◌-◌, ◌<◌, ◌≤◌, List, [], ◌∷◌, length, get_or, map, Option, Some, None, refl, sym, ap, ◌∙◌, subst, inl, arith, eqb, ne_eqb}
+use Rattle.std.proofs.lemmas.Option.{slice_get_within}
 use Rattle.std.specs.Prelude.{replicate, slice_get}
 use mathlib.Core.Option.{some, some-injective, some-ne-none}
 use lib.ListN.{get_elem?}
@@ -21,7 +22,6 @@ use Rattle.lease_words.specs.Views.{lines_before, base_of, granted_lines, shown_
 use Rattle.lease_words.specs.Facts.{Lane, Session, IsSession, KnowsLane, EngineFits, LibraryFits, one_if}
 use Rattle.lease_words.specs.Rule.{Truth, Ruled, IsShape, WordsFit, SlotsFit, EngineKnowsSo, LibraryKnowsSo, AreApart, KnowsSo}
 use Rattle.lease_words.specs.Registries.{IsEndedLine, AreEnded}
-use Rattle.lease_words.proofs.Lines.{get_within}
 use Rattle.lease_words.proofs.Places.{slot_within}
 
 -- one thing again and again
@@ -83,7 +83,7 @@ lines_begin libraries lines are = record {
   few = are.few;
   ended = λ k l at _. (line_at lines are.ended k l at).ended;
   known = λ k l at. (line_at lines are.ended k l at).known;
-  here = λ k l at past. absurd (let h = get_within lines l k at in omega arith);
+  here = λ k l at past. absurd (let h = slice_get_within lines k l at in omega arith);
 }
 
 session_begins : (libraries depth : ℕ) (lines : List Line) → AreEnded lines → IsSession (length lines) libraries depth (first_session lines)
@@ -94,7 +94,7 @@ session_begins libraries depth lines are = record {
   lanes = λ library a b. record {
     stands = tt;
     latest = tt;
-    others = λ k l at past. absurd (let h = get_within lines l k at in omega arith);
+    others = λ k l at past. absurd (let h = slice_get_within lines k l at in omega arith);
     all = sym (total_none library lines);
     behind = omega arith;
     within = omega arith;

@@ -1,5 +1,6 @@
 -- What is known of a session when the engine and a library meet, and what both know once they were told.
 use Rattle.std.proofs.Common.{◌≡◌, ◌≢◌, ℕ, zero, suc, ◌+◌, ◌-◌, ◌<◌, ◌≤◌, ◌⊎◌, List, [], ◌∷◌, ◌++◌, length, get_or, set, Bool, eq-eqb, ne_eqb, cond, refl, sym, ap, ◌∙◌, subst, inl, inr, ⊎_elim, arith, length-set}
+use Rattle.std.proofs.lemmas.Option.{slice_get_within}
 use Rattle.std.specs.Prelude.{slice_get, Some, ◌==◌}
 use Rattle.std.proofs.lemmas.List.{get_or-set_same, get_or-set_other}
 use native.Mathlib.Decide.{ℕ_discrete}
@@ -24,7 +25,7 @@ use Rattle.lease_words.specs.Views.{base_of, no_engine_session, engine_session, 
 use Rattle.lease_words.specs.Facts.{Lane, Session, IsLane, IsSession, Follows, KnowsLane, EngineFits, LibraryFits, one_if}
 use Rattle.lease_words.specs.Rule.{Truth, EngineKnowsSo, LibraryKnowsSo}
 use Rattle.lease_words.specs.Tells.{HasSeen, IsSeen, IsDone, AreOne, HaveMet, HaveMetAll, engine_session_after_meeting, library_session_after_meeting, engine_sessions_after_meeting, library_sessions_after_meeting, engine_after_meeting, library_after_meeting}
-use Rattle.lease_words.proofs.Lines.{get_push, get_push_before, get_push_here, get_within, follows_length, fits_count}
+use Rattle.lease_words.proofs.Lines.{get_push, get_push_before, get_push_here, follows_length, fits_count}
 use Rattle.lease_words.proofs.Seats.{each_map}
 
 each_append : {A : Type 0} (P : A → Type 0) (xs ys : List A) → Each P xs → Each P ys → Each P (xs ++ ys)
@@ -182,7 +183,7 @@ module _ (base library : ℕ) (shown lines : List Line) (follows : Follows shown
         let e : w.lease ≡ 0 = ap (λ (v : Word). v.lease) opens in
         record { lease = omega arith; own = λ l h above at whose is. absurd (omega arith) }
     word_done w (inr (m, by)) =
-        let within : w.lease - 1 < length lines = get_within lines m (w.lease - 1) by.line in
+        let within : w.lease - 1 < length lines = slice_get_within lines (w.lease - 1) m by.line in
         let size : length shown ≡ length lines = follows_length shown lines follows in
         record {
           lease = omega arith;
