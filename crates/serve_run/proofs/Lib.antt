@@ -1,0 +1,4 @@
+mod Drives
+mod Places
+mod Plans
+mod Working
