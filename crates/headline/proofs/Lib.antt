@@ -1,0 +1,14 @@
+mod Lists
+mod Causes
+mod Walk
+mod Steady
+mod Coming
+mod Whole
+mod Ending
+mod Found
+mod Journals
+mod Acts
+mod Bound
+mod Texts
+mod Libraries
+mod Refuted

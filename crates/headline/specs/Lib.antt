@@ -1,0 +1,4 @@
+pub mod Ends
+pub mod Headline
+pub mod Numbering
+pub mod Wrong

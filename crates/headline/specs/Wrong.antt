@@ -1,0 +1,122 @@
+-- Wrong records: each of these families is of records that are wrong in one way, whatever else they have.
+use Rattle.std.specs.Prelude.{◌≡◌, ℕ, ◌<◌, true, List, [], ◌∷◌, codes, length, slice_get, None, Some, Ok}
+use Rattle.connection_core.specs.declared.records.ConnRecord.{ConnRecord}
+use Rattle.engine_config.specs.declared.config.Config.{Config}
+use Rattle.engine_end.specs.Records.{SessionLeft}
+use Rattle.gate_io.specs.Wire.{Link}
+use Rattle.headline.specs.Headline.{HasSession, Headline}
+use Rattle.lease_core.specs.declared.entry.Entry.{Entry}
+use Rattle.lease_core.specs.declared.entry.Entry.TheVariants.{Admin, Bind, Granted, Leave, Send, Timeout}
+use Rattle.lease_core.specs.declared.entry.Why.TheVariants.{LeasesSpent}
+use Rattle.library_api.specs.declared.event.Event.TheVariants as events
+use Rattle.message_log.specs.declared.entry.OutEntry.{OutEntry}
+use Rattle.run_report.specs.declared.calls.Call.{Call}
+use Rattle.run_report.specs.declared.calls.Call.TheVariants as calls
+use Rattle.run_report.specs.declared.records.LibReport.{LibReport}
+use Rattle.run_report.specs.declared.records.RunRecord.{RunRecord}
+
+-- the headline holds of no record of which this is so
+abbrev pub IsRefuted : (RunRecord → Type 0) → Type 0
+IsRefuted IsWrong = (config : Config) (links : ℕ → Link) (left : RunRecord) → IsWrong left → Headline config links left → ⊥
+
+-- a session with these entries and logs
+abbrev pub session_with : List Entry → List (List ℕ) → List (List OutEntry) → SessionLeft
+session_with entries inbound outbound = record { names = record { us = codes "GATE"; them = codes "HUB" }; leases = 3; entries = entries; inbound = inbound; outbound = outbound }
+
+-- the outbound log has one message, or none
+abbrev pub one_message : List (List OutEntry)
+one_message = (record { at = 0; admin = true; body = codes "35=0" } ∷ []) ∷ []
+
+abbrev pub no_message : List (List OutEntry)
+no_message = [] ∷ []
+
+-- The inbound log has a message, and the journal no arrival.
+abbrev pub LogsNoArrival : RunRecord → Type 0
+LogsNoArrival left = HasSession left 0 (session_with [] (codes "35=D" ∷ []) no_message)
+
+-- The outbound log has a message, and the journal no number.
+abbrev pub LogsNoNumber : RunRecord → Type 0
+LogsNoNumber left = HasSession left 0 (session_with [] [] one_message)
+
+-- Two libraries have the session at once.
+abbrev pub HasTwoOwners : RunRecord → Type 0
+HasTwoOwners left = HasSession left 0 (session_with (Granted 1 1 1 0 0 ∷ Granted 2 1 2 0 0 ∷ []) [] no_message)
+
+-- The engine takes the session back from nobody, and so has two holdings, one behind the other.
+abbrev pub TakesBackFromNobody : RunRecord → Type 0
+TakesBackFromNobody left = HasSession left 0 (session_with (Timeout 1 1 0 ∷ []) [] no_message)
+
+-- The session machine answers before the session is bound.
+abbrev pub AnswersUnbound : RunRecord → Type 0
+AnswersUnbound left = HasSession left 0 (session_with (Admin 1 ∷ Bind 0 ∷ []) [] one_message)
+
+-- The session is bound to a connection while it is bound to another one.
+abbrev pub BindsTwoAtOnce : RunRecord → Type 0
+BindsTwoAtOnce left = HasSession left 0 (session_with (Bind 0 ∷ Bind 1 ∷ []) [] no_message)
+
+-- It is bound to one connection twice.
+abbrev pub BindsOneTwice : RunRecord → Type 0
+BindsOneTwice left = HasSession left 0 (session_with (Bind 0 ∷ Leave 0 ∷ Bind 0 ∷ []) [] no_message)
+
+-- Two sessions are bound to one connection.
+pub record ShareOneConnection (left : RunRecord) : Type 0 where
+  pub first : HasSession left 0 (session_with (Bind 0 ∷ []) [] no_message)
+  pub second : HasSession left 1 (session_with (Bind 0 ∷ []) [] no_message)
+
+-- The session is bound to a connection that isn't there.
+pub record BindsNone (left : RunRecord) : Type 0 where
+  pub session : HasSession left 0 (session_with (Bind 0 ∷ []) [] no_message)
+  pub none : left.engine.connections ≡ []
+
+-- a connection of session 0 that stands, of which nothing came
+abbrev pub connection_with : List ℕ → ConnRecord
+connection_with written = record { session = Some 0; taken = []; garbled = 0; written = written; cause = None }
+
+-- A connection took bytes, as they were another one's, of which its session's journal tells no message.
+pub record WritesWhatIsNotTold (left : RunRecord) : Type 0 where
+  pub session : HasSession left 0 (session_with (Bind 0 ∷ []) [] no_message)
+  pub connection : slice_get left.engine.connections 0 ≡ Some (connection_with (codes "8=FIX.4.4"))
+
+-- A connection stands and names a session whose journal has left it.
+pub record StandsWhereItWasLeft (left : RunRecord) : Type 0 where
+  pub session : HasSession left 0 (session_with (Bind 0 ∷ Leave 0 ∷ []) [] no_message)
+  pub connection : slice_get left.engine.connections 0 ≡ Some (connection_with [])
+
+-- More bytes are garbled than came.
+abbrev pub CountsWhatNeverCame : RunRecord → Type 0
+CountsWhatNeverCame left = slice_get left.engine.connections 0 ≡ Some (record (connection_with []) { garbled = 1 })
+
+-- what a library reports, of which these are the calls
+pub record Reports (left : RunRecord) (called : List Call) : Type 0 where
+  pub report : LibReport
+  pub at : slice_get left.libraries 0 ≡ Some report
+  pub called_is : report.calls ≡ called
+
+-- A request is replied to twice.
+abbrev pub IsRepliedToTwice : RunRecord → Type 0
+IsRepliedToTwice left = Reports left (calls.Request 0 0 (Ok 1) ∷ calls.Poll (events.Granted 1 0 1 0 0) ∷ calls.Poll (events.Refused 1 0 (LeasesSpent 1)) ∷ [])
+
+-- A library reports a request under another number than its first.
+abbrev pub SkipsNumbers : RunRecord → Type 0
+SkipsNumbers left = Reports left (calls.Request 0 0 (Ok 2) ∷ [])
+
+-- A send that a library reports the journal has of another library.
+pub record SendsForAnother (left : RunRecord) : Type 0 where
+  pub session : HasSession left 0 (session_with (Granted 2 1 1 0 0 ∷ Send 1 2 1 1 ∷ []) [] one_message)
+  pub reports : Reports left (calls.Send 0 (codes "35=0") (Ok (record { lease = 1; ordinal = 1 })) ∷ [])
+
+-- A library reads its lease's first message at another position than the one that the grant names.
+pub record ReadsElsewhere (left : RunRecord) : Type 0 where
+  pub session : HasSession left 0 (session_with (Granted 1 1 1 0 0 ∷ []) [] no_message)
+  pub reports : Reports left (calls.Poll (events.Message 0 1 5 (codes "35=D")) ∷ [])
+
+-- A library gave a lease back that the journal has as running.
+pub record GivesBackWhatRuns (left : RunRecord) : Type 0 where
+  pub session : HasSession left 0 (session_with (Granted 1 1 1 0 0 ∷ []) [] no_message)
+  pub reports : Reports left (calls.Release 0 (Ok (record { lease = 1; count = 0 })) ∷ [])
+
+-- A session that is configured has a stray.
+pub record StraysAtHome (left : RunRecord) : Type 0 where
+  pub libraries : 0 < length left.libraries
+  pub sessions : 0 < length left.engine.sessions
+  pub strays : left.engine.strays ≡ record { library = 1; nr = 1; s = 0 } ∷ []

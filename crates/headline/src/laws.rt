@@ -1,0 +1,114 @@
+//! Laws of the definitions. Each is the contract of a function that does nothing.
+
+ghost use Rattle.std.specs.Prelude.{◌≡◌, ℕ, List};
+ghost use Rattle.std.specs.List.{All};
+ghost use Rattle.engine_config.specs.Config.{IsConfig};
+ghost use Rattle.engine_config.specs.declared.config.Config.{Config};
+ghost use Rattle.engine_end.specs.Finishing.{GathersAll};
+ghost use Rattle.engine_end.specs.Records.{HasLawfulJournal};
+ghost use Rattle.gate_io.specs.MemWire.{link_at};
+ghost use Rattle.headline.specs.Ends.{AllEndedWhole};
+ghost use Rattle.headline.specs.Headline.{Headline};
+ghost use Rattle.headline.specs.Numbering.{AreInOrder, IsInOrder};
+ghost use Rattle.headline.specs.Wrong.{AnswersUnbound, BindsNone, BindsOneTwice, BindsTwoAtOnce, CountsWhatNeverCame, GivesBackWhatRuns, HasTwoOwners, IsRefuted, IsRepliedToTwice, LogsNoArrival, LogsNoNumber, ReadsElsewhere, SendsForAnother, ShareOneConnection, SkipsNumbers, StandsWhereItWasLeft, StraysAtHome, TakesBackFromNobody, WritesWhatIsNotTold};
+ghost use Rattle.lease_core.specs.declared.entry.Entry.{Entry};
+ghost use Rattle.lease_desk.specs.declared.desk.LeaseDesk.{LeaseDesk};
+ghost use Rattle.library_desk.specs.declared.shared.Shared.{Shared};
+ghost use Rattle.run_laws.specs.Accounted.{IsAccountedRun};
+ghost use Rattle.run_report.specs.declared.records.RunRecord.{RunRecord};
+ghost use Rattle.script_run.specs.Means.{Means, StartsRun};
+ghost use Rattle.script_run.specs.Runs.{Carries, CarriesOut};
+ghost use Rattle.script_run.specs.declared.run.Run.{Run};
+ghost use Rattle.script_text.specs.declared.steps.Script.{Script};
+ghost use Rattle.script_text.specs.declared.steps.Step.{Step};
+ghost use Rattle.session_core.specs.State.{State};
+
+use engine_laws::laws::{
+    accounts_are_whole, happenings_are_accounted_for, lines_are_accounted_for,
+    sessions_are_accounted_for, steps_are_accounted_for,
+};
+use lease_core::laws::{holdings_adjoin, one_owner_at_a_time};
+use library_api::replies_close_requests;
+use library_desk::laws::serving_happens;
+use run_laws::laws::{
+    kept_calls_tell, libraries_live, runs_are_accounted_for, runs_go_on, scripts_are_accounted_for,
+};
+use switchboard::laws::boards_go_on;
+use text_laws::laws::texts_are_taken;
+
+/// The connections of a run are numbered in the order in which they come, the accepted ones from 0 on and the
+/// dialled ones from the first dialled number on: as it begins, behind each step of its script, and as each
+/// session is gathered at its end.
+pub fn connections_are_numbered()
+    ensures first { (config : Config) (moment : ℕ) (shared : Shared) (run : Run) → StartsRun config moment shared run → IsInOrder run }
+    ensures carries { (step : Step) (old new : Run) → Carries step old new → IsInOrder old → IsInOrder new }
+    ensures carries_out { (steps : List Step) (count : ℕ) (old new : Run) → CarriesOut steps count old new → IsInOrder old → IsInOrder new }
+    ensures gathers { (at until : ℕ) (old new : LeaseDesk) → GathersAll at until old new → (accepted dialled : ℕ) → AreInOrder accepted dialled old.board.connections
+        → AreInOrder accepted dialled new.board.connections }
+{
+    serving_happens();
+}
+
+/// Of a connection that ended from outside, by the wire, by the clock or since it took too little, each whole piece
+/// of what came on it was handed out before: as a run begins, behind each step of its script, and as each
+/// session is gathered at its end.
+pub fn connections_end_whole()
+    ensures first { (config : Config) (moment : ℕ) (shared : Shared) (run : Run) → StartsRun config moment shared run → AllEndedWhole run.engine.sessions.desk.board }
+    ensures carries { (before : ℕ → List Entry) (start : ℕ → State) (step : Step) (old new : Run) → Carries step old new → IsAccountedRun before start old
+        → AllEndedWhole old.engine.sessions.desk.board → AllEndedWhole new.engine.sessions.desk.board }
+    ensures carries_out { (before : ℕ → List Entry) (start : ℕ → State) (steps : List Step) (count : ℕ) (old new : Run) → CarriesOut steps count old new → IsAccountedRun before start old
+        → AllEndedWhole old.engine.sessions.desk.board → AllEndedWhole new.engine.sessions.desk.board }
+    ensures gathers { (at until : ℕ) (old new : LeaseDesk) → GathersAll at until old new → AllEndedWhole old.board → AllEndedWhole new.board }
+{
+    serving_happens();
+    happenings_are_accounted_for();
+    sessions_are_accounted_for();
+    lines_are_accounted_for();
+    steps_are_accounted_for();
+    runs_are_accounted_for();
+}
+
+/// The headline holds of each record that a script means, where its journals are those of registries, and the wire
+/// tells of the connections what that of its last run does.
+pub fn headlines_hold()
+    ensures { (script : Script) (left : RunRecord) (means : Means script left) → IsConfig script.config → All HasLawfulJournal left.engine.sessions
+        → Headline script.config (link_at means.leads.last.wire) left }
+{
+    connections_are_numbered();
+    connections_end_whole();
+    accounts_are_whole();
+    happenings_are_accounted_for();
+    sessions_are_accounted_for();
+    holdings_adjoin();
+    one_owner_at_a_time();
+    replies_close_requests();
+    kept_calls_tell();
+    libraries_live();
+    runs_are_accounted_for();
+    runs_go_on();
+    scripts_are_accounted_for();
+    boards_go_on();
+    texts_are_taken();
+}
+
+/// The headline pins records down without the meaning of a script: each of these families of wrong records is refuted.
+pub fn wrong_records_are_refuted()
+    ensures no_arrival { IsRefuted LogsNoArrival }
+    ensures no_number { IsRefuted LogsNoNumber }
+    ensures two_owners { IsRefuted HasTwoOwners }
+    ensures back_from_nobody { IsRefuted TakesBackFromNobody }
+    ensures answers_unbound { IsRefuted AnswersUnbound }
+    ensures two_at_once { IsRefuted BindsTwoAtOnce }
+    ensures one_twice { IsRefuted BindsOneTwice }
+    ensures one_shared { IsRefuted ShareOneConnection }
+    ensures not_there { IsRefuted BindsNone }
+    ensures not_told { IsRefuted WritesWhatIsNotTold }
+    ensures left_standing { IsRefuted StandsWhereItWasLeft }
+    ensures never_came { IsRefuted CountsWhatNeverCame }
+    ensures twice { IsRefuted IsRepliedToTwice }
+    ensures skipped { IsRefuted SkipsNumbers }
+    ensures for_another { IsRefuted SendsForAnother }
+    ensures elsewhere { IsRefuted ReadsElsewhere }
+    ensures runs_on { IsRefuted GivesBackWhatRuns }
+    ensures at_home { IsRefuted StraysAtHome }
+{}
