@@ -2,6 +2,8 @@
 #![tactic(auto)]
 
 pub mod laws;
+mod numbers;
+mod places;
 mod words;
 
-pub use words::{Chosen, WordsError, command_of};
+pub use words::{Chosen, MOST_TURNS, WordsError, command_of};

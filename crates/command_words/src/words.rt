@@ -1,25 +1,41 @@
 //! The command that the words behind the program's name give.
 
-ghost use Rattle.std.specs.Prelude.{◌≡◌, ◌↔◌, ◌≤◌, ℕ, List, IfOk, IfSome, IsErrOf, IsNone, IsTrue, Some, codes, map, string_bytes};
+ghost use Rattle.std.specs.Prelude.{◌≡◌, ◌↔◌, List, ℕ, [], ◌∷◌, IfOk, IsErrOf, IsTrue, Some, map, string_bytes};
+ghost use Rattle.std.specs.List.{list_all};
+ghost use Rattle.clap.specs.Words.{kind_of};
+ghost use Rattle.clap.specs.declared.error.kind.ErrorKind.TheVariants as kind;
+ghost use Rattle.command_words.specs.Words.{Gives, HasCommand, error_text, is_word};
 ghost use Rattle.command_words.specs.declared.words.WordsError.TheVariants.{OutOfMemory};
-ghost use Rattle.drill_maker.specs.declared.limits.TheConstants.{MOST_ROUNDS};
-ghost use Rattle.fix_fields.specs.Number.{number_of};
-ghost use Rattle.command_words.specs.Words.{Gives, GivesDrill, GivesReplay, HasCommand, error_text, is_word};
 
+use crate::numbers::number_up_to;
+use crate::places::{Placed, places_of};
+use clap::error::ErrorKind;
 use drill_maker::MOST_ROUNDS;
-use fix_fields::read_number;
 use gate_io::Label;
 use std::alloc::{AllocError, Global};
 use std::error::Error;
 use std::fmt;
 
+/// The most turns that `serve` may be given. The least is 1.
+pub const MOST_TURNS: u64 = 1_000_000_000_000;
+
 /// A command.
 #[derive(Debug, Drop)]
 pub enum Chosen {
     /// Carry out the script in this file on one thread.
-    Replay { path: Label },
+    Replay {
+        path: Label,
+    },
     /// Carry out the drill of `n` rounds, from 1 to 500.
-    Drill { n: u32 },
+    Drill {
+        n: u32,
+    },
+    /// Carry out the script in this file over connections to the address, for at most so many turns.
+    Serve {
+        path: Label,
+        address: Label,
+        turns: u64,
+    },
 }
 
 /// Why the words give no command.
@@ -51,74 +67,103 @@ impl From<AllocError> for WordsError {
     }
 }
 
-/// The command that the words give, those behind the program's name: `replay` and a path, or `drill` and a
-/// number of rounds. No word may be empty or begin with `-`.
+impl From<clap::Error> for WordsError {
+    ghost from_gives = { λ e error. (kind_of e ≡ kind.OutOfMemory) ↔ (error ≡ OutOfMemory) };
+
+    fn from(e: clap::Error) -> WordsError {
+        match e.kind() {
+            ErrorKind::OutOfMemory => WordsError::OutOfMemory,
+            _ => WordsError::Usage,
+        }
+    }
+}
+
+/// The command that the words give, those behind the program's name: `replay` and a path, `drill` and a
+/// number of rounds, or `serve`, a path, an address and a number of turns. No word may be empty or begin
+/// with `-`.
+#[tactic(auto, using(crate::proofs::Shapes::stand_mapped))]
 pub fn command_of(alloc: Global, words: &[String]) -> Result<Chosen, WordsError>
     ensures chosen { IfOk result (Gives (map string_bytes words.now)) }
     ensures usage { IsErrOf result WordsError.Usage → HasCommand (map string_bytes words.now) → ⊥ }
-    ensures wanted { IsErrOf result WordsError.OutOfMemory → HasCommand (map string_bytes words.now) }
+    // A word that may not stand in a command is told without memory.
+    ensures wanted { IsErrOf result WordsError.OutOfMemory → IsTrue (list_all is_word (map string_bytes words.now)) }
 {
-    if let Some(path) = replayed(words) {
+    if !may_stand(words) {
+        return Err(WordsError::Usage);
+    }
+    match places_of(alloc, words)? {
+        Placed {
+            command: Some(command),
+            subject: Some(subject),
+            address: None,
+            turns: None,
+        } => of_two(alloc, command, subject),
+        Placed {
+            command: Some(command),
+            subject: Some(path),
+            address: Some(address),
+            turns: Some(turns),
+        } => of_four(alloc, command, path, address, turns),
+        _ => Err(WordsError::Usage),
+    }
+}
+
+/// The command that two words give: `replay` and a path, or `drill` and a number.
+fn of_two(alloc: Global, command: &str, subject: &str) -> Result<Chosen, WordsError>
+    requires { IsTrue (list_all is_word (command.now ∷ subject.now ∷ [])) }
+    ensures chosen { IfOk result (Gives (command.now ∷ subject.now ∷ [])) }
+    ensures usage { IsErrOf result WordsError.Usage → HasCommand (command.now ∷ subject.now ∷ []) → ⊥ }
+{
+    if command == "replay" {
         return Ok(Chosen::Replay {
-            path: Label::of(String::from_str(alloc, path)?),
+            path: label(alloc, subject)?,
         });
     }
-    match rounds(words) {
-        Some(n) => Ok(Chosen::Drill { n }),
+    if command != "drill" {
+        return Err(WordsError::Usage);
+    }
+    match number_up_to(subject, MOST_ROUNDS as u64) {
+        Some(n) => Ok(Chosen::Drill { n: n as u32 }),
         None => Err(WordsError::Usage),
     }
 }
 
-/// The path of the script that the words have replayed.
-fn replayed(words: &[String]) -> Option<&str>
-    ensures some { IfSome result (λ path. GivesReplay (map string_bytes words.now) path.now) }
-    ensures none { IsNone result → (path : List ℕ) → GivesReplay (map string_bytes words.now) path → ⊥ }
+/// The command that four words give: `serve`, a path, an address and a number.
+fn of_four(
+    alloc: Global,
+    command: &str,
+    path: &str,
+    address: &str,
+    turns: &str,
+) -> Result<Chosen, WordsError>
+    requires { IsTrue (list_all is_word (command.now ∷ path.now ∷ address.now ∷ turns.now ∷ [])) }
+    ensures chosen { IfOk result (Gives (command.now ∷ path.now ∷ address.now ∷ turns.now ∷ [])) }
+    ensures usage { IsErrOf result WordsError.Usage → HasCommand (command.now ∷ path.now ∷ address.now ∷ turns.now ∷ []) → ⊥ }
 {
-    let [command, path] = words else {
-        return None;
-    };
-    if !is_replay(command.as_str()) || !is_word(path.as_str()) {
-        return None;
+    if command != "serve" {
+        return Err(WordsError::Usage);
     }
-    Some(path.as_str())
-}
-
-/// How many rounds of a drill the words ask for.
-fn rounds(words: &[String]) -> Option<u32>
-    ensures some { IfSome result (GivesDrill (map string_bytes words.now)) }
-    ensures none { IsNone result → (n : ℕ) → GivesDrill (map string_bytes words.now) n → ⊥ }
-{
-    let [command, number] = words else {
-        return None;
-    };
-    if !is_drill(command.as_str()) {
-        return None;
+    match number_up_to(turns, MOST_TURNS) {
+        Some(turns) => Ok(Chosen::Serve {
+            path: label(alloc, path)?,
+            address: label(alloc, address)?,
+            turns,
+        }),
+        None => Err(WordsError::Usage),
     }
-    rounds_in(number.as_bytes())
 }
 
-/// The number of rounds that a word is.
-fn rounds_in(word: &[u8]) -> Option<u32>
-    ensures some { IfSome result (λ n. (number_of word.now ≡ Some n) × (1 ≤ n) × (n ≤ MOST_ROUNDS)) }
-    ensures none { IsNone result → (n : ℕ) → number_of word.now ≡ Some n → 1 ≤ n → n ≤ MOST_ROUNDS → ⊥ }
+fn label(alloc: Global, text: &str) -> Result<Label, AllocError>
+    ensures { IfOk result (λ label. label ≡ text.now) }
 {
-    let n = read_number(word)?;
-    if n == 0 || n > MOST_ROUNDS {
-        return None;
-    }
-    Some(n)
+    Ok(Label::of(String::from_str(alloc, text)?))
 }
 
-fn is_replay(word: &str) -> bool
-    ensures { IsTrue result ↔ (word.now ≡ codes "replay") }
+/// Whether each word may stand in a command.
+fn may_stand(words: &[String]) -> bool
+    ensures { result ≡ list_all (λ word. is_word (string_bytes word)) words.now }
 {
-    word == "replay"
-}
-
-fn is_drill(word: &str) -> bool
-    ensures { IsTrue result ↔ (word.now ≡ codes "drill") }
-{
-    word == "drill"
+    words.iter().all(|word| is_word(word.as_str()))
 }
 
 /// Whether a word may stand in a command: it isn't empty and doesn't begin with `-`.

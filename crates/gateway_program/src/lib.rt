@@ -1,35 +1,48 @@
-//! The program, whatever it is run on: makes the real objects, calls the top call that the words
-//! name, and ends with its status.
+//! The program, whatever it is run on: its words, a script that is replayed or a drill, the line of a status that
+//! isn't Ok, and the exit status.
 #![tactic(auto)]
 
 use gate_io::{FileSource, MemSource, StdSink};
 use gateway_run::{Chosen, Status, WordsError, command_of, replay};
+use std::alloc::Global;
 use std::process::ExitCode;
 use std::{env, io};
 
-/// Runs the words behind the program's name. Prints the line of a status that isn't Ok to standard
-/// error.
+/// Carries out the words behind the program's name, where they say to replay a script or a drill.
 pub fn program(rt: &HostRuntime) -> ExitCode {
     let status = match words_of(rt) {
         Ok(words) => run(rt, words.as_slice()),
-        Err(e) if e.kind() == io::ErrorKind::InvalidData => Status::Usage,
-        Err(_) => Status::OutOfMemory,
+        Err(status) => status,
     };
-    if status != Status::Ok {
-        let _ = eprintln!(rt; "{status}");
-    }
-    ExitCode::from(status.code())
+    end(rt, status)
 }
 
-/// The words behind the program's name.
-fn words_of(rt: &HostRuntime) -> io::Result<Vec<String>> {
+/// The words behind the program's name. Words that aren't text give no command.
+pub fn words_of(rt: &HostRuntime) -> Result<Vec<String>, Status> {
+    match all_words(rt) {
+        Ok(words) => Ok(words),
+        Err(e) if e.kind() == io::ErrorKind::InvalidData => Err(Status::Usage),
+        Err(_) => Err(Status::OutOfMemory),
+    }
+}
+
+fn all_words(rt: &HostRuntime) -> io::Result<Vec<String>> {
     let mut args = env::args(rt)?;
     let _program = args.next();
     Ok(args.collect(rt.alloc())?)
 }
 
-/// Carries out the command that the words give. A drill has no script to read.
-fn run(rt: &HostRuntime, words: &[String]) -> Status {
+/// The path of the script that the words say to serve, if they do.
+pub fn script_to_serve(alloc: Global, words: &[String]) -> Result<Option<String>, Status> {
+    match command_of(alloc, words) {
+        Ok(Chosen::Serve { path, .. }) => Ok(Some(path.into_inner())),
+        Ok(_) | Err(WordsError::Usage) => Ok(None),
+        Err(WordsError::OutOfMemory) => Err(Status::OutOfMemory),
+    }
+}
+
+/// Carries out the command that the words give, where it is one of `replay`. A drill has no script to read.
+pub fn run(rt: &HostRuntime, words: &[String]) -> Status {
     let alloc = rt.alloc();
     let mut out = StdSink::new(*rt);
     match command_of(alloc, words) {
@@ -43,7 +56,15 @@ fn run(rt: &HostRuntime, words: &[String]) -> Status {
             let (status, _record) = replay(alloc, words, &mut nothing, &mut out);
             status
         }
+        Ok(Chosen::Serve { .. }) | Err(WordsError::Usage) => Status::Usage,
         Err(WordsError::OutOfMemory) => Status::OutOfMemory,
-        Err(WordsError::Usage) => Status::Usage,
     }
+}
+
+/// Ends the program: prints the line of a status that isn't Ok to standard error.
+pub fn end(rt: &HostRuntime, status: Status) -> ExitCode {
+    if status != Status::Ok {
+        let _ = eprintln!(rt; "{status}");
+    }
+    ExitCode::from(status.code())
 }

@@ -17,6 +17,8 @@ leaves_by Is text old new risen same status.OutOfMemory run out journals writes 
 leaves_by Is text old new risen same status.Usage run out journals writes = absurd writes
 leaves_by Is text old new risen same status.ReadFault run out journals writes = absurd writes
 leaves_by Is text old new risen same (status.ScriptFault line kind) run out journals writes = absurd writes
+leaves_by Is text old new risen same status.ListenFault run out journals writes = absurd writes
+leaves_by Is text old new risen same (status.TurnsSpent turns library) run out journals writes = absurd writes
 
 pub cut_by : (refuses : Status → Type 0) (text : List ℕ) (old new : Option (List ℕ)) (risen same : Type 0) (ended : Status) → ended ≡ status.WriteFault → EndsSo refuses text old new risen same ended → HasTakenPrefix old text new
 cut_by refuses text old new risen same ended is ends = (subst (λ (s : Status). EndsSo refuses text old new risen same s) is ends).0

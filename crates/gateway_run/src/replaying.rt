@@ -1,44 +1,36 @@
 //! The top call that carries out a recorded script, or a drill, on one thread.
 
-ghost use Rattle.std.specs.Prelude.{◌≡◌, ◌⊎◌, ◌≤◌, ℕ, false, Err, Ok, IfErr, IfOk, IfSome, map, string_bytes};
+ghost use Rattle.std.specs.Prelude.{◌≡◌, ◌⊎◌, ◌≤◌, ℕ, false, Err, Ok, IfSome, map, string_bytes};
 ghost use Rattle.std.specs.List.{All};
-ghost use Rattle.command_words.specs.Words.{Gives, HasCommand};
+ghost use Rattle.command_words.specs.Words.{Gives, HasCommandFor, IsForReplay};
 ghost use Rattle.command_words.specs.declared.words.Chosen.{Chosen as TheChosen};
 ghost use Rattle.drill_maker.specs.Drill.{drill_of};
 ghost use Rattle.drill_maker.specs.declared.limits.TheConstants.{MOST_ROUNDS};
 ghost use Rattle.engine_end.specs.Records.{HasLawfulJournal};
 ghost use Rattle.gate_io.specs.Counts.{HasRisen};
 ghost use Rattle.gate_io.specs.Sink.{HasTaken, HasTakenPrefix};
-ghost use Rattle.gate_io.specs.Source.{GaveWithin, IsAllOf};
-ghost use Rattle.gateway_run.specs.Outcome.{EndsSo, IsScriptOf, IsTextOf, Leaves, RefusesSource, Writes, WritesNothing, no_run, printed_text, text_for};
+ghost use Rattle.gate_io.specs.Source.{GaveWithin};
+ghost use Rattle.gateway_run.specs.Outcome.{EndsSo, IsScriptOf, IsTextOf, Leaves, RefusesSource, WritesNothing, no_run, text_for};
 ghost use Rattle.run_report.specs.Report.{report_of};
 ghost use Rattle.run_report.specs.Summary.{summary_of};
-ghost use Rattle.script_text.specs.Lawful.{IsLawful};
 ghost use Rattle.script_text.specs.Meaning.{script_of};
 ghost use Rattle.script_text.specs.declared.kinds.ScriptKind.{ScriptKind};
 ghost use Rattle.script_text.specs.declared.steps.Script.{Script as TheScript};
 
+use crate::reading::{no_record, script_in};
 use crate::statuses::Status;
+use crate::writing::{Printed, write};
 use command_words::laws::words_give_one;
 use command_words::{Chosen, WordsError, command_of};
 use drill_maker::drill;
 use drill_maker::laws::drills_are_lawful;
-use engine_end::EngineRecord;
-use gate_io::{NoMemory, ReadAll, Rows, Sink, Source, read_all, write_all};
+use gate_io::{NoMemory, Sink, Source};
+use headline::laws::headlines_hold;
 use run_laws::laws::scripts_are_accounted_for;
-use run_report::{RunRecord, report_text, summary_text};
+use run_report::RunRecord;
 use script_run::carry_out;
-use script_text::{LONGEST_SCRIPT, Script, ScriptError, ScriptKind, read_script};
+use script_text::{LONGEST_SCRIPT, ScriptError};
 use std::alloc::Global;
-
-/// What is written of a run.
-#[derive(Clone, Copy, Debug)]
-pub(crate) enum Printed {
-    /// Its whole report.
-    Report,
-    /// The summary of a drill of `n` rounds.
-    Summary { n: u32 },
-}
 
 /// Carries out the script that the words name, or the drill of so many rounds, and writes the report of the
 /// run, or the summary. A drill doesn't read the source.
@@ -52,14 +44,15 @@ pub fn replay<So: Source, Si: Sink>(
     script: &mut So,
     out: &mut Si,
 ) -> (Status, RunRecord)
-    // The record is what the script means, and all that it tells is accounted for.
+    // The record is what the script means, all that it tells is accounted for, and the headline holds of it.
     ensures meant { (command : TheChosen) → Gives (map string_bytes words.now) command → Leaves (IsScriptOf command (So.left script.old)) result.0 result.1 }
     // The sink took the report of that record, or the summary.
     ensures reported { (command : TheChosen) → Gives (map string_bytes words.now) command → result.0 ≡ Status.Ok → HasTaken (Si.held out.old) (text_for command result.1) (Si.held out.new) }
-    ensures usage { result.0 ≡ Status.Usage → HasCommand (map string_bytes words.now) → ⊥ }
-    ensures no_command { (HasCommand (map string_bytes words.now) → ⊥) → result.0 ≡ Status.Usage }
-    ensures no_run { result.0 ≡ Status.Usage → result.1 ≡ no_run }
-    ensures usage_untouched { result.0 ≡ Status.Usage → script.new ≡ script.old }
+    // A command of `serve` is none for `replay`.
+    ensures usage { result.0 ≡ Status.Usage → HasCommandFor IsForReplay (map string_bytes words.now) → ⊥ }
+    ensures no_command { (HasCommandFor IsForReplay (map string_bytes words.now) → ⊥) → (result.0 ≡ Status.Usage) ⊎ (result.0 ≡ Status.OutOfMemory) }
+    ensures no_run { (HasCommandFor IsForReplay (map string_bytes words.now) → ⊥) → result.1 ≡ no_run }
+    ensures untouched { (HasCommandFor IsForReplay (map string_bytes words.now) → ⊥) → script.new ≡ script.old }
     ensures drill_untouched { (n : ℕ) → Gives (map string_bytes words.now) (Chosen.Drill n) → script.new ≡ script.old }
     ensures read_fault { result.0 ≡ Status.ReadFault → HasRisen (So.faults script.old) (So.faults script.new) }
     // No fault is told once the script is known to be too long.
@@ -73,7 +66,7 @@ pub fn replay<So: Source, Si: Sink>(
     // The journal of each session is lawful, also without memory.
     ensures journals { All HasLawfulJournal result.1.engine.sessions }
     // Where nothing stands in the way, the run is whole, unless memory is wanting.
-    ensures complete { IfSome (So.left script.old) (λ text. (said : TheScript) → HasCommand (map string_bytes words.now) → script_of false text ≡ Ok said
+    ensures complete { IfSome (So.left script.old) (λ text. (said : TheScript) → HasCommandFor IsForReplay (map string_bytes words.now) → script_of false text ≡ Ok said
         → (HasRisen (So.faults script.old) (So.faults script.new) → ⊥) → (HasRisen (Si.faults out.old) (Si.faults out.new) → ⊥)
         → (result.0 ≡ Status.Ok) ⊎ (result.0 ≡ Status.OutOfMemory)) }
     ensures drill_complete { (n : ℕ) → Gives (map string_bytes words.now) (Chosen.Drill n) → (HasRisen (Si.faults out.old) (Si.faults out.new) → ⊥)
@@ -83,6 +76,7 @@ pub fn replay<So: Source, Si: Sink>(
     match command_of(alloc, words) {
         Ok(Chosen::Replay { .. }) => replay_script(alloc, script, out),
         Ok(Chosen::Drill { n }) => replay_drill(alloc, n, out),
+        Ok(Chosen::Serve { .. }) => (Status::Usage, no_record(alloc)),
         Err(WordsError::Usage) => (Status::Usage, no_record(alloc)),
         Err(WordsError::OutOfMemory) => (Status::OutOfMemory, no_record(alloc)),
     }
@@ -94,16 +88,17 @@ fn replay_script<So: Source, Si: Sink>(
     source: &mut So,
     out: &mut Si,
 ) -> (Status, RunRecord)
-    ensures meant { Leaves (IsTextOf (So.left source.old)) result.0 result.1 }
-    ensures ends { EndsSo (RefusesSource (So.left source.old) (So.faults source.old) (So.faults source.new)) (report_of result.1) (Si.held out.old) (Si.held out.new) (HasRisen (Si.faults out.old) (Si.faults out.new)) (out.new ≡ out.old) result.0 }
+    ensures meant { Leaves (IsTextOf false (So.left source.old)) result.0 result.1 }
+    ensures ends { EndsSo (RefusesSource false (So.left source.old) (So.faults source.old) (So.faults source.new)) (report_of result.1) (Si.held out.old) (Si.held out.new) (HasRisen (Si.faults out.old) (Si.faults out.new)) (out.new ≡ out.old) result.0 }
     ensures read_fault_within { result.0 ≡ Status.ReadFault → GaveWithin (So.left source.old) LONGEST_SCRIPT (So.left source.new) }
     ensures journals { All HasLawfulJournal result.1.engine.sessions }
 {
-    let script = match script_in(alloc, source) {
+    let script = match script_in(alloc, source, false) {
         Ok(script) => script,
         Err(status) => return (status, no_record(alloc)),
     };
     scripts_are_accounted_for();
+    headlines_hold();
     match carry_out(alloc, script) {
         Ok(run) => {
             let status = write(alloc, &run, Printed::Report, out);
@@ -122,6 +117,7 @@ fn replay_drill<Si: Sink>(alloc: Global, n: u32, out: &mut Si) -> (Status, RunRe
 {
     drills_are_lawful();
     scripts_are_accounted_for();
+    headlines_hold();
     let script = match drill(alloc, n) {
         Ok(script) => script,
         Err(NoMemory::OutOfMemory) => return (Status::OutOfMemory, no_record(alloc)),
@@ -132,77 +128,5 @@ fn replay_drill<Si: Sink>(alloc: Global, n: u32, out: &mut Si) -> (Status, RunRe
             (status, run)
         }
         Err((NoMemory::OutOfMemory, run)) => (Status::OutOfMemory, run),
-    }
-}
-
-/// Writes the report of a record, or its summary.
-fn write<Si: Sink>(alloc: Global, run: &RunRecord, print: Printed, out: &mut Si) -> Status
-    ensures { Writes (printed_text print run.now) (Si.held out.old) (Si.held out.new) (HasRisen (Si.faults out.old) (Si.faults out.new)) (out.new ≡ out.old) result }
-{
-    match print_text(alloc, run, print) {
-        Err(NoMemory::OutOfMemory) => Status::OutOfMemory,
-        Ok(text) => match write_all(out, text.as_slice()) {
-            Ok(()) => Status::Ok,
-            Err(_) => Status::WriteFault,
-        },
-    }
-}
-
-/// The report of a record, or its summary.
-fn print_text(alloc: Global, run: &RunRecord, print: Printed) -> Result<Vec<u8>, NoMemory>
-    ensures { IfOk result (λ text. text.items ≡ printed_text print run.now) }
-{
-    match print {
-        Printed::Report => report_text(alloc, run),
-        Printed::Summary { n } => summary_text(alloc, n, run),
-    }
-}
-
-/// The script that a source has.
-fn script_in<So: Source>(alloc: Global, source: &mut So) -> Result<Script, Status>
-    ensures script { IfOk result (IsTextOf (So.left source.old)) }
-    ensures lawful { IfOk result (IsLawful false) }
-    ensures refused { IfErr result (RefusesSource (So.left source.old) (So.faults source.old) (So.faults source.new)) }
-    ensures read_fault_within { IfErr result (λ status. status ≡ Status.ReadFault → GaveWithin (So.left source.old) LONGEST_SCRIPT (So.left source.new)) }
-{
-    let text = text_of(alloc, source)?;
-    match read_script(alloc, text.as_slice(), false) {
-        Ok(script) => Ok(script),
-        Err(ScriptError::OutOfMemory) => Err(Status::OutOfMemory),
-        Err(ScriptError::Fault { line, kind }) => Err(Status::ScriptFault { line, kind }),
-    }
-}
-
-/// The bytes of the script.
-fn text_of<So: Source>(alloc: Global, source: &mut So) -> Result<Vec<u8>, Status>
-    ensures all { IfOk result (λ text. IsAllOf (So.left source.old) text.items) }
-    ensures refused { IfErr result (RefusesSource (So.left source.old) (So.faults source.old) (So.faults source.new)) }
-    ensures read_fault_within { IfErr result (λ status. status ≡ Status.ReadFault → GaveWithin (So.left source.old) LONGEST_SCRIPT (So.left source.new)) }
-{
-    match read_all(alloc, source, LONGEST_SCRIPT) {
-        Ok(text) => Ok(text),
-        Err(ReadAll::OutOfMemory) => Err(Status::OutOfMemory),
-        Err(ReadAll::ReadFault) => Err(Status::ReadFault),
-        Err(ReadAll::TooLong) => Err(Status::ScriptFault {
-            line: 0,
-            kind: ScriptKind::TooLong,
-        }),
-    }
-}
-
-/// The record of a run that didn't begin.
-fn no_record(alloc: Global) -> RunRecord
-    ensures none { result ≡ no_run }
-    ensures journals { All HasLawfulJournal result.engine.sessions }
-{
-    RunRecord {
-        engine: EngineRecord {
-            sessions: Rows::of(Vec::new(alloc)),
-            connections: Rows::of(Vec::new(alloc)),
-            strays: Rows::of(Vec::new(alloc)),
-            accepted: 0,
-            added: Rows::of(Vec::new(alloc)),
-        },
-        libraries: Rows::of(Vec::new(alloc)),
     }
 }

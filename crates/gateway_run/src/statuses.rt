@@ -20,6 +20,11 @@ pub enum Status {
     /// The script is outside the grammar: its first faulty line, from 1, and the fault; line 0 where
     /// the script as a whole is too long.
     ScriptFault { line: u32, kind: ScriptKind },
+    /// So many turns were spent, and the report was written: by library 0, the engine, while connections or
+    /// libraries were still awaited, or else by the first library that gave its plan up.
+    TurnsSpent { turns: u64, library: u8 },
+    /// The address can't be listened at.
+    ListenFault,
 }
 
 impl Status {
@@ -34,6 +39,8 @@ impl Status {
             Status::ScriptFault { .. } => 3,
             Status::ReadFault => 4,
             Status::WriteFault => 5,
+            Status::TurnsSpent { .. } => 6,
+            Status::ListenFault => 7,
         }
     }
 }
@@ -53,6 +60,10 @@ impl fmt::Display for Status {
             Status::ReadFault => write!(f, "fixgate: cannot read the script"),
             Status::WriteFault => write!(f, "fixgate: cannot write the report"),
             Status::ScriptFault { line, kind } => write!(f, "fixgate: script line {line}: {kind}"),
+            Status::TurnsSpent { turns, library } => {
+                write!(f, "fixgate: {turns} turns spent by {library}")
+            }
+            Status::ListenFault => write!(f, "fixgate: cannot listen"),
         }
     }
 }

@@ -44,6 +44,15 @@ fn lines_and_codes(rt: HostRuntime) -> Result<(), Fail> {
         ),
         (Status::ReadFault, 4, "fixgate: cannot read the script"),
         (Status::WriteFault, 5, "fixgate: cannot write the report"),
+        (
+            Status::TurnsSpent {
+                turns: 3,
+                library: 0,
+            },
+            6,
+            "fixgate: 3 turns spent by 0",
+        ),
+        (Status::ListenFault, 7, "fixgate: cannot listen"),
     ];
     for (status, code, line) in cases {
         assert_eq!(rt; status.code(), code);

@@ -35,7 +35,7 @@ fn words_that_name_a_script(rt: HostRuntime) -> Result<(), Fail> {
     let words = words(alloc, &["replay", "a.script"])?;
     match command_of(alloc, words.as_slice()) {
         Ok(Chosen::Replay { path }) => assert_eq!(rt; path.as_str(), "a.script"),
-        Ok(_) => assert!(rt; false, "another command"),
+        Ok(_other) => assert!(rt; false, "another command"),
         Err(e) => assert_eq!(rt; e, WordsError::OutOfMemory),
     }
     Ok(())

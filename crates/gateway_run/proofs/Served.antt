@@ -1,0 +1,76 @@
+-- What serving leaves, by how the writing of its report ended and whose turns were spent.
+use Rattle.std.proofs.Common.{◌≡◌, ℕ, Bool, List, Option, None, Some, refl, subst, ◌∙◌}
+use Rattle.std.specs.List.{All}
+use Rattle.command_words.specs.declared.words.Chosen.{Chosen}
+use Rattle.command_words.specs.declared.words.Chosen.TheVariants as chosen
+use Rattle.engine_end.specs.Records.{HasLawfulJournal}
+use Rattle.gate_io.specs.Wire.{Door, Link}
+use Rattle.gateway_run.specs.Outcome.{Writes}
+use Rattle.gateway_run.specs.Served.{EndsServing, IsServed, ServesSo, WireServes, with_spent}
+use Rattle.gateway_run.specs.declared.statuses.Status.{Status}
+use Rattle.gateway_run.specs.declared.statuses.Status.TheVariants as status
+use Rattle.run_report.specs.declared.records.RunRecord.{RunRecord}
+use Rattle.script_text.specs.declared.steps.Script.{Script}
+use Rattle.serve_run.specs.Serves.{Serves}
+
+module _ (Is : Script → Type 0) (turns : ℕ) (Serving : Script → ℕ → RunRecord → Option ℕ → Type 0) (text : List ℕ) (old new : Option (List ℕ)) (risen same : Type 0) where
+  pub served_by : (ended : Status) (spent : Option ℕ) (run : RunRecord) → IsServed Is turns Serving run spent → All HasLawfulJournal run.engine.sessions → Writes text old new risen same ended → ServesSo Is turns Serving (with_spent ended turns spent) run
+  served_by status.Ok None run served journals writes = served
+  served_by status.Ok (Some library) run served journals writes = (refl, served)
+  served_by status.WriteFault spent run served journals writes = (spent, served)
+  served_by status.OutOfMemory spent run served journals writes = journals
+  served_by status.Usage spent run served journals writes = absurd writes
+  served_by status.ReadFault spent run served journals writes = absurd writes
+  served_by (status.ScriptFault line kind) spent run served journals writes = absurd writes
+  served_by (status.TurnsSpent made library) spent run served journals writes = absurd writes
+  served_by status.ListenFault spent run served journals writes = absurd writes
+
+  pub ends_by : (refuses : Status → Type 0) (listen : Type 0) (ended : Status) (spent : Option ℕ) → Writes text old new risen same ended → EndsServing refuses listen text old new risen same (with_spent ended turns spent)
+  ends_by refuses listen status.Ok None writes = writes
+  ends_by refuses listen status.Ok (Some library) writes = writes
+  ends_by refuses listen status.WriteFault spent writes = writes
+  ends_by refuses listen status.OutOfMemory spent writes = writes
+  ends_by refuses listen status.Usage spent writes = absurd writes
+  ends_by refuses listen status.ReadFault spent writes = absurd writes
+  ends_by refuses listen (status.ScriptFault line kind) spent writes = absurd writes
+  ends_by refuses listen (status.TurnsSpent made library) spent writes = absurd writes
+  ends_by refuses listen status.ListenFault spent writes = absurd writes
+
+  -- where nothing stood in the way before
+  pub ends_as : (refuses : Status → Type 0) (listen : Type 0) (ended : Status) → EndsServing (λ s. ⊥) ⊥ text old new risen same ended → EndsServing refuses listen text old new risen same ended
+  ends_as refuses listen status.Ok ends = ends
+  ends_as refuses listen status.WriteFault ends = ends
+  ends_as refuses listen status.OutOfMemory ends = ends
+  ends_as refuses listen status.Usage ends = absurd ends
+  ends_as refuses listen status.ReadFault ends = absurd ends.0
+  ends_as refuses listen (status.ScriptFault line kind) ends = absurd ends.0
+  ends_as refuses listen (status.TurnsSpent made library) ends = ends
+  ends_as refuses listen status.ListenFault ends = absurd ends.0
+
+-- what is served of a script that is one of these, over a wire as it was before
+pub serves_as : (Is Known : Script → Type 0) (turns : ℕ) (Serving Served : Script → ℕ → RunRecord → Option ℕ → Type 0) (ended : Status) (run : RunRecord) → ((script : Script) → Is script → Known script)
+    → ((script : Script) (spent : Option ℕ) → Serving script turns run spent → Served script turns run spent) → ServesSo Is turns Serving ended run → ServesSo Known turns Served ended run
+serves_as Is Known turns Serving Served status.Ok run is goes served = record { script = served.script; is = is served.script served.is; serves = goes served.script None served.serves }
+serves_as Is Known turns Serving Served (status.TurnsSpent spent library) run is goes served =
+    (served.0, record { script = served.1.script; is = is served.1.script served.1.is; serves = goes served.1.script (Some library) served.1.serves })
+serves_as Is Known turns Serving Served status.WriteFault run is goes served =
+    (served.0, record { script = served.1.script; is = is served.1.script served.1.is; serves = goes served.1.script served.0 served.1.serves })
+serves_as Is Known turns Serving Served status.OutOfMemory run is goes served = served
+serves_as Is Known turns Serving Served status.Usage run is goes served = served
+serves_as Is Known turns Serving Served status.ReadFault run is goes served = served
+serves_as Is Known turns Serving Served (status.ScriptFault line kind) run is goes served = served
+serves_as Is Known turns Serving Served status.ListenFault run is goes served = served
+
+pub behind_listen : (wide : Bool) (Read : List ℕ → Type 0) (before old new : Door) (before_links old_links new_links : ℕ → Link) (script : Script) (turns : ℕ) (run : RunRecord) (spent : Option ℕ) → old ≡ before → ((c : ℕ) → old_links c ≡ before_links c)
+    → WireServes wide Read old new old_links new_links script turns run spent → WireServes wide Read before new before_links new_links script turns run spent
+behind_listen wide Read before old new before_links old_links new_links script turns run spent door links served = record {
+  links = served.links;
+  same = λ c. served.same c ∙ links c;
+  serves = subst (λ (d : Door). Serves script turns wide Read d new served.links new_links run spent) door served.serves;
+}
+
+-- the turns that a command of `serve` gives
+pub turns_in : Chosen → ℕ
+turns_in (chosen.Serve path address turns) = turns
+turns_in (chosen.Replay path) = 0
+turns_in (chosen.Drill n) = n

@@ -1,0 +1,63 @@
+-- How serving ends.
+use Rattle.std.specs.Prelude.{◌≡◌, ℕ, ◌≤◌, Bool, List, Option, None, Some}
+use Rattle.std.specs.List.{All}
+use Rattle.engine_end.specs.Records.{HasLawfulJournal}
+use Rattle.gate_io.specs.Sink.{HasTaken, HasTakenPrefix}
+use Rattle.gate_io.specs.Wire.{Door, Link}
+use Rattle.gateway_run.specs.Outcome.{no_run}
+use Rattle.gateway_run.specs.declared.statuses.Status.{Status}
+use Rattle.gateway_run.specs.declared.statuses.Status.TheVariants as status
+use Rattle.run_report.specs.declared.records.RunRecord.{RunRecord}
+use Rattle.script_text.specs.declared.steps.Script.{Script}
+use Rattle.serve_run.specs.Serves.{Serves}
+
+-- The script is served over a wire that listens: as it began to, it told of its connections what it told before.
+pub record WireServes (wide : Bool) (Read : List ℕ → Type 0) (old new : Door) (old_links new_links : ℕ → Link) (script : Script) (turns : ℕ) (run : RunRecord) (spent : Option ℕ) : Type 0 where
+  pub links : ℕ → Link
+  pub same : (c : ℕ) → links c ≡ old_links c
+  pub serves : Serves script turns wide Read old new links new_links run spent
+
+-- the record is what serving a script leaves that is one of these, and so the turns were spent
+pub record IsServed (Is : Script → Type 0) (turns : ℕ) (Serving : Script → ℕ → RunRecord → Option ℕ → Type 0) (run : RunRecord) (spent : Option ℕ) : Type 0 where
+  pub script : Script
+  pub is : Is script
+  pub serves : Serving script turns run spent
+
+-- What serving leaves that ends so: on Ok no turns were spent, on TurnsSpent those of the library that it names, and where the report can't be written either. Without
+-- memory each journal is lawful. Else nothing was served.
+abbrev pub ServesSo : (Script → Type 0) → ℕ → (Script → ℕ → RunRecord → Option ℕ → Type 0) → Status → RunRecord → Type 0
+ServesSo Is turns Serving status.Ok run = IsServed Is turns Serving run None
+ServesSo Is turns Serving (status.TurnsSpent spent library) run = (spent ≡ turns) × IsServed Is turns Serving run (Some library)
+ServesSo Is turns Serving status.WriteFault run = (spent : Option ℕ) × IsServed Is turns Serving run spent
+ServesSo Is turns Serving status.OutOfMemory run = All HasLawfulJournal run.engine.sessions
+ServesSo Is turns Serving status.Usage run = run ≡ no_run
+ServesSo Is turns Serving status.ReadFault run = run ≡ no_run
+ServesSo Is turns Serving (status.ScriptFault line kind) run = run ≡ no_run
+ServesSo Is turns Serving status.ListenFault run = run ≡ no_run
+
+-- turns were spent
+abbrev pub IsSpent : Status → Type 0
+IsSpent ended = (turns : ℕ) × (library : ℕ) × (ended ≡ status.TurnsSpent turns library)
+
+-- How it ended: what became of the report, or that nothing was written, and why nothing was to be.
+abbrev pub EndsServing : (Status → Type 0) → Type 0 → List ℕ → Option (List ℕ) → Option (List ℕ) → Type 0 → Type 0 → Status → Type 0
+EndsServing refuses listen text old new risen same status.Ok = HasTaken old text new
+EndsServing refuses listen text old new risen same (status.TurnsSpent turns library) = HasTaken old text new
+EndsServing refuses listen text old new risen same status.WriteFault = HasTakenPrefix old text new × risen
+EndsServing refuses listen text old new risen same status.OutOfMemory = same
+EndsServing refuses listen text old new risen same status.Usage = ⊥
+EndsServing refuses listen text old new risen same status.ReadFault = refuses status.ReadFault × same
+EndsServing refuses listen text old new risen same (status.ScriptFault line kind) = refuses (status.ScriptFault line kind) × same
+EndsServing refuses listen text old new risen same status.ListenFault = listen × same
+
+-- how serving ends, by how the writing of its report ended and whose turns were spent
+abbrev pub with_spent : Status → ℕ → Option ℕ → Status
+with_spent status.Ok turns (Some library) = status.TurnsSpent turns library
+with_spent status.Ok turns None = status.Ok
+with_spent status.OutOfMemory turns spent = status.OutOfMemory
+with_spent status.Usage turns spent = status.Usage
+with_spent status.ReadFault turns spent = status.ReadFault
+with_spent status.WriteFault turns spent = status.WriteFault
+with_spent (status.ScriptFault line kind) turns spent = status.ScriptFault line kind
+with_spent (status.TurnsSpent made library) turns spent = status.TurnsSpent made library
+with_spent status.ListenFault turns spent = status.ListenFault
