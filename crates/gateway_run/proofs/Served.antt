@@ -11,6 +11,7 @@ use Rattle.gateway_run.specs.declared.statuses.Status.{Status}
 use Rattle.gateway_run.specs.declared.statuses.Status.TheVariants as status
 use Rattle.run_report.specs.declared.records.RunRecord.{RunRecord}
 use Rattle.script_text.specs.declared.steps.Script.{Script}
+use Rattle.serve_laws.specs.Served.{AnyReadings}
 use Rattle.serve_run.specs.Serves.{Serves}
 
 module _ (Is : Script → Type 0) (turns : ℕ) (Serving : Script → ℕ → RunRecord → Option ℕ → Type 0) (text : List ℕ) (old new : Option (List ℕ)) (risen same : Type 0) where
@@ -47,6 +48,31 @@ module _ (Is : Script → Type 0) (turns : ℕ) (Serving : Script → ℕ → Ru
   ends_as refuses listen (status.TurnsSpent made library) ends = ends
   ends_as refuses listen status.ListenFault ends = absurd ends.0
 
+-- what is served, whatever was read of the clock
+pub whatever_read : (script : Script) (turns : ℕ) (wide : Bool) (Read : List ℕ → Type 0) (old new : Door) (old_links new_links : ℕ → Link) (run : RunRecord) (spent : Option ℕ)
+    → Serves script turns wide Read old new old_links new_links run spent → Serves script turns wide AnyReadings old new old_links new_links run spent
+whatever_read script turns wide Read old new old_links new_links run spent served = (
+    let drives = served.drives in
+    record {
+      shared = served.shared;
+      reading = served.reading;
+      first = served.first;
+      last = served.last;
+      begun = served.begun;
+      worked = served.worked;
+      over = served.over;
+      starts = served.starts;
+      libraries = served.libraries;
+      drives = record { count = drives.count; few = drives.few; last = drives.last; at = drives.at; drives = drives.drives; reads = tt; ended = drives.ended; spent = drives.spent };
+      works = served.works;
+      concludes = served.concludes;
+    })
+
+-- no turns were spent
+pub none_spent : (script : Script) (turns : ℕ) (wide : Bool) (old new : Door) (old_links new_links : ℕ → Link) (run : RunRecord) (spent : Option ℕ) → spent ≡ None
+    → Serves script turns wide AnyReadings old new old_links new_links run spent → Serves script turns wide AnyReadings old new old_links new_links run None
+none_spent script turns wide old new old_links new_links run spent none served = subst (Serves script turns wide AnyReadings old new old_links new_links run) none served
+
 -- what is served of a script that is one of these, over a wire as it was before
 pub serves_as : (Is Known : Script → Type 0) (turns : ℕ) (Serving Served : Script → ℕ → RunRecord → Option ℕ → Type 0) (ended : Status) (run : RunRecord) → ((script : Script) → Is script → Known script)
     → ((script : Script) (spent : Option ℕ) → Serving script turns run spent → Served script turns run spent) → ServesSo Is turns Serving ended run → ServesSo Known turns Served ended run
@@ -67,6 +93,8 @@ behind_listen wide Read before old new before_links old_links new_links script t
   links = served.links;
   same = λ c. served.same c ∙ links c;
   serves = subst (λ (d : Door). Serves script turns wide Read d new served.links new_links run spent) door served.serves;
+  headline = served.headline;
+  finished = served.finished;
 }
 
 -- the turns that a command of `serve` gives

@@ -1,5 +1,5 @@
 -- How serving ends.
-use Rattle.std.specs.Prelude.{◌≡◌, ℕ, ◌≤◌, Bool, List, Option, None, Some}
+use Rattle.std.specs.Prelude.{◌≡◌, ℕ, Bool, List, Option, None, Some}
 use Rattle.std.specs.List.{All}
 use Rattle.engine_end.specs.Records.{HasLawfulJournal}
 use Rattle.gate_io.specs.Sink.{HasTaken, HasTakenPrefix}
@@ -7,15 +7,20 @@ use Rattle.gate_io.specs.Wire.{Door, Link}
 use Rattle.gateway_run.specs.Outcome.{no_run}
 use Rattle.gateway_run.specs.declared.statuses.Status.{Status}
 use Rattle.gateway_run.specs.declared.statuses.Status.TheVariants as status
+use Rattle.headline.specs.Finished.{IsFinished}
+use Rattle.headline.specs.Headline.{Headline}
 use Rattle.run_report.specs.declared.records.RunRecord.{RunRecord}
 use Rattle.script_text.specs.declared.steps.Script.{Script}
-use Rattle.serve_run.specs.Serves.{Serves}
+use Rattle.serve_run.specs.Serves.{Serves, connections_of}
 
--- The script is served over a wire that listens: as it began to, it told of its connections what it told before.
+-- The script is served over a wire that listens, which told of its connections, as it began to, what it told before. The headline holds of the record, where the wire
+-- tells what it does in the end; and where no turns were spent nothing is left to wait for.
 pub record WireServes (wide : Bool) (Read : List ℕ → Type 0) (old new : Door) (old_links new_links : ℕ → Link) (script : Script) (turns : ℕ) (run : RunRecord) (spent : Option ℕ) : Type 0 where
   pub links : ℕ → Link
   pub same : (c : ℕ) → links c ≡ old_links c
   pub serves : Serves script turns wide Read old new links new_links run spent
+  pub headline : Headline script.config new_links run
+  pub finished : spent ≡ None → IsFinished (connections_of script.config) run
 
 -- the record is what serving a script leaves that is one of these, and so the turns were spent
 pub record IsServed (Is : Script → Type 0) (turns : ℕ) (Serving : Script → ℕ → RunRecord → Option ℕ → Type 0) (run : RunRecord) (spent : Option ℕ) : Type 0 where

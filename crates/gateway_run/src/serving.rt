@@ -22,6 +22,7 @@ use crate::writing::{Printed, write};
 use command_words::laws::words_give_one;
 use command_words::{Chosen, WordsError, command_of};
 use gate_io::{Clock, Dial, Gate, Listened, NoMemory, Sink, Source};
+use headline::laws::served_headlines_hold;
 use run_report::RunRecord;
 use script_text::{LONGEST_SCRIPT, Script, ScriptError};
 use serve_run::{Served, serve_script};
@@ -56,7 +57,7 @@ pub fn serve<
     // Nothing came at the wire before.
     requires accepted { (W.door wire.old).accepted ≡ 0 }
     requires dialled { (W.door wire.old).dialled ≡ 0 }
-    // The record is what engine and libraries left that served the script, side by side.
+    // The record is what engine and libraries left that served the script, side by side, and the headline holds of it.
     ensures served { (path address : List ℕ) (turns : ℕ) → Gives (map string_bytes words.now) (Chosen.Serve path address turns)
         → ServesSo (IsTextOf true (So.left script.old)) turns (WireServes (G.open_wide gate.now) (λ readings. TakesReadings C.has_read clock.old readings clock.new) (W.door wire.old) (W.door wire.new) (W.link wire.old) (W.link wire.new)) result.0 result.1 }
     // The sink took the report of that record, also where turns were spent.
@@ -164,6 +165,7 @@ fn serve_out<R: Threads + Sync, W: Dial + Send, C: Clock + Send, G: Gate + Sync,
     ensures ends { EndsServing (λ _. ⊥) ⊥ (report_of result.1) (Si.held out.old) (Si.held out.new) (HasRisen (Si.faults out.old) (Si.faults out.new)) (out.new ≡ out.old) result.0 }
     ensures journals { All HasLawfulJournal result.1.engine.sessions }
 {
+    served_headlines_hold();
     match serve_script(rt, alloc, script, turns, wire, clock, gate) {
         Ok(Served { run, spent }) => {
             let status = write(alloc, &run, Printed::Report, out);

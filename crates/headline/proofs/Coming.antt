@@ -77,11 +77,11 @@ one_dialled accepted dialled number at s out connections is are =
     }
 
 -- an engine over its wire: as many were accepted as the wire gave
-record AreAt (accepted : ℕ) (door : Door) (board : Board) : Type 0 where
-  counted : accepted ≡ door.accepted
-  connections : AreInOrder door.accepted door.dialled board.connections
+pub record AreAt (accepted : ℕ) (door : Door) (board : Board) : Type 0 where
+  pub counted : accepted ≡ door.accepted
+  pub connections : AreInOrder door.accepted door.dialled board.connections
 
-abbrev AtWireInOrder : AtWire → Type 0
+abbrev pub AtWireInOrder : AtWire → Type 0
 AtWireInOrder at = AreAt at.engine.accepted at.door at.engine.sessions.desk.board
 
 same_order : (old new : Door) (board : Board) → new.accepted ≡ old.accepted → new.dialled ≡ old.dialled → AreInOrder old.accepted old.dialled board.connections → AreInOrder new.accepted new.dialled board.connections
@@ -159,7 +159,7 @@ kept_at door old new keeps was = record {
 }
 
 module _ (serves : (library at until : ℕ) (old new : LibraryDesk) (turn : LibTurn) → Serves library at until old new turn → RunsFor at old.desk.board new.desk.board) where
-  turn_made : (reading : ℕ) (old new : AtWire) (turn : Turn) → MakesTurn reading old new turn → AtWireInOrder old → AtWireInOrder new
+  pub turn_made : (reading : ℕ) (old new : AtWire) (turn : Turn) → MakesTurn reading old new turn → AtWireInOrder old → AtWireInOrder new
   turn_made reading old new turn is was =
       let takes = is.takes in
       let begun = at_wire (with_moment reading old.engine) old.door old.links in

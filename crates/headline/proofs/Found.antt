@@ -45,7 +45,7 @@ number_is first (suc count) zero d within = omega arith
 number_is first (suc count) (suc i) d within = number_is (first + 1) count i d (omega arith) ∙ omega arith
 
 -- as many as have numbers, each with its own
-as_many : (first count : ℕ) (cs : List ConnectionState) → numbers_of cs ≡ numbers_from first count → length cs ≡ count
+pub as_many : (first count : ℕ) (cs : List ConnectionState) → numbers_of cs ≡ numbers_from first count → length cs ≡ count
 as_many first count cs are = sym (length-map cs (λ (c : ConnectionState). c.number)) ∙ ap length are ∙ numbers_count first count
 
 number_of : (first count : ℕ) (cs : List ConnectionState) (i : ℕ) → numbers_of cs ≡ numbers_from first count → i < length cs → (get_or cs i no_connection).number ≡ first + i

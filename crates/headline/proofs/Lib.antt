@@ -5,6 +5,7 @@ mod Steady
 mod Coming
 mod Whole
 mod Ending
+mod Driven
 mod Found
 mod Journals
 mod Acts
@@ -12,3 +13,5 @@ mod Bound
 mod Texts
 mod Libraries
 mod Refuted
+mod MeetsHeadline
+mod Finished

@@ -9,14 +9,17 @@ use Rattle.std.specs.List.{All, Contains, flat_map, slice_get}
 use Rattle.std.specs.Prelude.{if◌then◌else◌, nat_le}
 use Rattle.engine_config.specs.declared.config.Config.{Config}
 use Rattle.engine_end.specs.Records.{SessionLeft, left_of}
+use Rattle.engine_loop.specs.declared.engine.Engine.{Engine}
+use Rattle.gate_io.specs.Wire.{Link}
 use Rattle.headline.proofs.Found.{session_count, session_found, session_there}
-use Rattle.headline.proofs.Lists.{all_at, mapped_from, past_end, there_is}
+use Rattle.headline.proofs.Lists.{past_end, there_is}
 use Rattle.headline.specs.Headline.{EachLibrary, GivesBack, HasSession, IsRepliedTo, IsReplyTold, IsSent, IsStray, IsTold, ReadsPrefixes, sends_of}
 use Rattle.lease_core.specs.Lines.{lines_of}
 use Rattle.lease_core.specs.declared.entry.Entry.{Entry}
 use Rattle.lease_core.specs.declared.entry.Why.TheVariants.{UnknownSession}
 use Rattle.lease_core.specs.declared.messages.Notice.{Notice}
 use Rattle.lease_core.specs.declared.messages.Notice.TheVariants as notices
+use Rattle.lease_words.specs.Views.{LibraryView}
 use Rattle.library_api.specs.Calls.{numbers_to, popped_of}
 use Rattle.library_api.specs.Known.{Known, new_library, reading_count}
 use Rattle.library_api.specs.Laws.{PollsPop}
@@ -25,21 +28,18 @@ use Rattle.library_api.specs.Replies.{replies_in}
 use Rattle.library_api.specs.Calls.{Call}
 use Rattle.library_api.specs.declared.event.Event.{Event}
 use Rattle.library_api.specs.declared.event.Event.TheVariants as events
+use Rattle.library_desk.specs.declared.desk.LibraryDesk.{LibraryDesk}
 use Rattle.library_desk.specs.declared.desk.Stray.{Stray}
 use Rattle.library_laws.specs.Replies.{Ask, IsAnswered, answered_by, replies_told, reply_of, stray_reply, stray_told}
 use Rattle.library_laws.specs.Sends.{logged_bodies}
 use Rattle.run_laws.specs.Accounted.{LeavesAccounted, first_machines, no_entries}
-use Rattle.run_laws.specs.Lives.{AreKeptAs, HasLived, HaveLived}
-use Rattle.run_laws.specs.Records.{AllAreReplied}
-use Rattle.run_laws.specs.Reports.{AreFromGrant, GivesBack as GivesBackOn, HandsOn, IsBorneOut, IsGivenBack, IsTold as IsToldOn, OnNotice, asks_kept, positions_kept, posts_kept}
+use Rattle.run_laws.specs.Lives.{AreKept, HasLived, IsReportedAs, Life}
+use Rattle.run_laws.specs.Reports.{AreFromGrant, GivesBack as GivesBackOn, HandsOn, IsBorneOut, IsGivenBack, IsReported, IsTold as IsToldOn, OnNotice, asks_kept, positions_kept, posts_kept}
 use Rattle.run_laws.specs.Sides.{Begins}
 use Rattle.run_report.specs.declared.calls.Call.{Call as Kept}
 use Rattle.run_report.specs.declared.calls.Call.TheVariants as calls
 use Rattle.run_report.specs.declared.records.LibReport.{LibReport}
 use Rattle.run_report.specs.declared.records.RunRecord.{RunRecord}
-use Rattle.script_run.specs.Means.{report_of}
-use Rattle.script_run.specs.declared.callers.Caller.{Caller}
-use Rattle.script_run.specs.declared.run.Run.{Run}
 use Rattle.session_book.specs.Sends.{HasSend, sent_at}
 use Rattle.session_book.specs.Spells.{placed_from}
 use Rattle.lease_core.specs.State.{state_of}
@@ -104,29 +104,35 @@ among f (z ∷ zs) x y one (suc n, within, is) = Contains-append_right (f z) (fl
 -- what the laws of libraries say
 pub record LibraryLaws : Type 0 where
   pub pops : PollsPop
-  pub handed : (k : Known) (made : List Call) (kept : List Kept) → AreKeptAs k made kept → All (HandsOn (Contains (notices_of k made))) kept
+  pub handed : (k : Known) (made : List Call) (kept : List Kept) → AreKept IsReportedAs k made kept → All (HandsOn (Contains (notices_of k made))) kept
 
-module _ (config : Config) (run : Run) (left : RunRecord) (leaves : LeavesAccounted no_entries (first_machines config) run left)
-    (lived : HaveLived config.asks run) (replied : AllAreReplied no_entries leaves.gathered.board run) (borne_out : All (IsBorneOut no_entries leaves.gathered.board left.engine.strays) left.libraries)
-    (few : length leaves.gathered.board.sessions ≤ reading_count) (laws : LibraryLaws) where
+-- what is reported of each library of a record is what it did, and is borne out
+abbrev pub AllReported : ℕ → Board → LibraryDesk → RunRecord → Type 0
+AllReported requests board d left = (place : ℕ) (report : LibReport) → slice_get left.libraries place ≡ Some report → IsReported requests no_entries board d place report
+
+module _ (config : Config) (engine : Engine) (links : ℕ → Link) (seats : List LibraryView) (reports : List LibReport) (left : RunRecord) (leaves : LeavesAccounted no_entries (first_machines config) engine links seats reports left)
+    (reported : AllReported config.asks leaves.gathered.board engine.sessions left) (few : length leaves.gathered.board.sessions ≤ reading_count) (laws : LibraryLaws) where
   abbrev board : Board
   board = leaves.gathered.board
 
+  abbrev strays : List Stray
+  strays = engine.sessions.strays.items
+
   found : (s : ℕ) (session : SessionLeft) → HasSession left s session → (s < length board.sessions) × (session ≡ left_of (session_at board s))
-  found s session has = (let one = session_found board run.engine.sessions.strays.items run.engine.accepted left.engine.added left leaves.leaves s session has in (one.within, one.is))
+  found s session has = (let one = session_found board strays engine.accepted left.engine.added left leaves.leaves s session has in (one.within, one.is))
 
   there : (s : ℕ) → s < length board.sessions → HasSession left s (left_of (session_at board s))
-  there s within = session_there board run.engine.sessions.strays.items run.engine.accepted left.engine.added left leaves.leaves s within
+  there s within = session_there board strays engine.accepted left.engine.added left leaves.leaves s within
 
   count_is : length left.engine.sessions ≡ length board.sessions
-  count_is = session_count board run.engine.sessions.strays.items run.engine.accepted left.engine.added left leaves.leaves
+  count_is = session_count board strays engine.accepted left.engine.added left leaves.leaves
 
   -- what is told by the board is told by the record
   reply_told : (library s : ℕ) (reply : Notice) → (s < length board.sessions → Contains (replies_told library s (book_at board s).entries) reply)
-      → (length board.sessions ≤ s → Contains (flat_map (stray_told library) left.engine.strays) reply) → IsReplyTold left library s reply
+      → (length board.sessions ≤ s → Contains (flat_map (stray_told library) strays) reply) → IsReplyTold left library s reply
   reply_told library s reply journal stray = record {
     journal = λ session has. (let one = found s session has in subst (λ (x : SessionLeft). Contains (replies_told library s x.entries) reply) (sym one.1) (journal one.0));
-    stray = λ past. stray (let count = count_is in omega arith);
+    stray = λ past. subst (λ all. Contains (flat_map (stray_told library) all) reply) (sym leaves.leaves.strays_are) (stray (let count = count_is in omega arith));
   }
 
   none_past : (s pos : ℕ) (bytes : List ℕ) → length board.sessions ≤ s → slice_get (book_at board s).inbound pos ≡ Some bytes → ⊥
@@ -134,7 +140,7 @@ module _ (config : Config) (run : Run) (left : RunRecord) (leaves : LeavesAccoun
       let none : (book_at board s).inbound ≡ [] = ap (λ (session : KeptSession). session.book.inbound) (past_end board.sessions s no_session past) in
       none-some bytes (ap (λ (log : List (List ℕ)). slice_get log pos) (sym none) ∙ is)
 
-  told_in : (library : ℕ) (n : Notice) → IsToldOn board left.engine.strays library n → IsTold left library n
+  told_in : (library : ℕ) (n : Notice) → IsToldOn board strays library n → IsTold left library n
   told_in library (notices.Granted nr s lease from start) is = reply_told library s (notices.Granted nr s lease from start) is.0 is.1
   told_in library (notices.Refused nr s why) is = reply_told library s (notices.Refused nr s why) is.0 is.1
   told_in library (notices.Message s lease pos bytes) is = elim (cases_lt s (length board.sessions)) [
@@ -142,7 +148,7 @@ module _ (config : Config) (run : Run) (left : RunRecord) (leaves : LeavesAccoun
     | inr past ↦ absurd (none_past s pos bytes past is)
   ]
 
-  reads_prefixes : (report : LibReport) → IsBorneOut no_entries board left.engine.strays report → ReadsPrefixes left report
+  reads_prefixes : (report : LibReport) → IsBorneOut no_entries board strays report → ReadsPrefixes left report
   reads_prefixes report borne = record {
     reads = λ s session has lease some.
         let one = found s session has in
@@ -152,8 +158,8 @@ module _ (config : Config) (run : Run) (left : RunRecord) (leaves : LeavesAccoun
           | inl none ↦ inl none
           | inr grant ↦ inr (subst (λ (x : SessionLeft). AreFromGrant (replies_told report.number s x.entries) s lease (positions_kept s lease report.calls)) (sym one.1) grant)
         ];
-    told = All-weaker (HandsOn (IsToldOn board left.engine.strays report.number)) (HandsOn (IsTold left report.number))
-        (λ call is. handed_on (IsToldOn board left.engine.strays report.number) (IsTold left report.number) (told_in report.number) call is) report.calls borne.told;
+    told = All-weaker (HandsOn (IsToldOn board strays report.number)) (HandsOn (IsTold left report.number))
+        (λ call is. handed_on (IsToldOn board strays report.number) (IsTold left report.number) (told_in report.number) call is) report.calls borne.told;
   }
 
   given_back : (library : ℕ) (call : Kept) → GivesBackOn board library call → GivesBack left library call
@@ -168,7 +174,7 @@ module _ (config : Config) (run : Run) (left : RunRecord) (leaves : LeavesAccoun
   given_back library (calls.Request s from answer) is = tt
   given_back library calls.Beat is = tt
 
-  all_sent : (report : LibReport) → IsBorneOut no_entries board left.engine.strays report → IsSent left report
+  all_sent : (report : LibReport) → IsBorneOut no_entries board strays report → IsSent left report
   all_sent report borne = record {
     logged = λ s session has.
         let one = found s session has in
@@ -186,76 +192,76 @@ module _ (config : Config) (run : Run) (left : RunRecord) (leaves : LeavesAccoun
   }
 
   -- what a library popped
-  popped_is : (place : ℕ) (caller : Caller) (at : slice_get run.callers.items place ≡ Some caller) → (one : HasLived config.asks caller) → notices_of (new_library one.first config.asks) one.made ≡ caller.library.ends.head.popped
-  popped_is place caller at one =
+  popped_is : (life : Life) (one : HasLived IsReportedAs config.asks life) → notices_of (new_library one.first config.asks) one.made ≡ life.library.ends.head.popped
+  popped_is life one =
       let k = new_library one.first config.asks in
       sym (ap (λ (now : Known). now.ends.head.popped) one.known ∙ (laws.pops k one.made one.lawful ∙ ap (λ popped. popped ++ popped_of k one.made) one.unused.popped))
 
-  all_replied : (place : ℕ) (caller : Caller) → slice_get run.callers.items place ≡ Some caller → IsRepliedTo left (report_of caller)
-  all_replied place caller at =
-      let one = lived place caller at in
-      let end = replied place caller at in
-      let served = one.served in
-      let popped = caller.library.ends.head.popped in
-      let asks = asks_kept caller.calls.items in
-      let asked : caller.library.asked ≡ length asks =
-      sym (numbers_count caller.library.asked) ∙ ap length (sym end.numbers) ∙ length-map asks (λ (ask : Ask). ask.nr) in
-      let at_side : slice_get run.engine.sessions.ends.items (caller.number - 1) ≡ Some served.side = (let number = one.number in subst (λ j. slice_get run.engine.sessions.ends.items j ≡ Some served.side) (omega arith) served.found) in
-      let answered : IsAnswered no_entries board run.engine.sessions.strays.items caller.number served.side = leaves.accounted.answered caller.number served.side (let number = one.number in omega arith) at_side in
+  side_at : (place : ℕ) (report : LibReport) (of : IsReported config.asks no_entries board engine.sessions place report) → IsAnswered no_entries board strays (place + 1) of.is.served.side
+  side_at place report of =
+      leaves.accounted.answered (place + 1) of.is.served.side (omega arith) (subst (λ j. slice_get engine.sessions.ends.items j ≡ Some of.is.served.side) (omega arith) of.is.served.found)
+
+  life_replied : (place : ℕ) (report : LibReport) (of : IsReported config.asks no_entries board engine.sessions place report) → IsRepliedTo left report
+  life_replied place report of =
+      let life = of.life in
+      let end = of.replied in
+      let served = of.is.served in
+      let popped = life.library.ends.head.popped in
+      let asks = asks_kept life.calls in
+      let asked : life.library.asked ≡ length asks =
+      sym (numbers_count life.library.asked) ∙ ap length (sym end.numbers) ∙ length-map asks (λ (ask : Ask). ask.nr) in
+      let number : report.number ≡ place + 1 = of.number ∙ of.is.number in
+      let answered : IsAnswered no_entries board strays report.number served.side = subst (λ n. IsAnswered no_entries board strays n served.side) (sym number) (side_at place report of) in
       let replies = as_many_replies popped in
       let count = count_is in
+      let most = end.few in
       record {
         heard = popped;
-        handed_on = subst (λ (ns : List Notice). All (HandsOn (Contains ns)) caller.calls.items) (popped_is place caller at one.lived) (laws.handed (new_library one.lived.first config.asks) one.lived.made caller.calls.items one.lived.kept);
-        numbers = end.numbers ∙ ap numbers_to asked;
-        answers = end.answers;
-        at_most_one_open = elim end.replied [
-          | inl all ↦ omega (arith, all.0, replies, asked)
-          | inr but_one ↦ omega (arith, but_one.0, replies, asked)
-        ];
+        handed_on = subst (λ calls. All (HandsOn (Contains popped)) calls) (sym of.calls) (subst (λ (ns : List Notice). All (HandsOn (Contains ns)) life.calls) (popped_is life of.is.lived)
+            (laws.handed (new_library of.is.lived.first config.asks) of.is.lived.made life.calls of.is.lived.kept));
+        numbers = subst (λ calls. map (λ (ask : Ask). ask.nr) (asks_kept calls) ≡ numbers_to (length (asks_kept calls))) (sym of.calls) (end.numbers ∙ ap numbers_to asked);
+        answers = subst (λ calls. Begins (flat_map answered_by popped) (asks_kept calls)) (sym of.calls) end.answers;
+        at_most_one_open = subst (λ calls. length (asks_kept calls) ≤ length (flat_map answered_by popped) + 1) (sym of.calls) (omega arith);
         replies = λ s session has.
             let here = found s session has in
             let told = end.replies s here.0 in
-            subst (λ (x : SessionLeft). Begins (flat_map (reply_of s) popped) (replies_told caller.number s x.entries)) (sym here.1) (record { rest = told.rest; is = sym told.are });
+            subst (λ (x : SessionLeft). Begins (flat_map (reply_of s) popped) (replies_told report.number s x.entries)) (sym here.1)
+            (subst (λ n. Begins (flat_map (reply_of s) popped) (replies_told n s (book_at board s).entries)) (sym of.number) (record { rest = told.rest; is = sym told.are }));
         strays = record {
           rest = flat_map (stray_reply (length left.engine.sessions)) served.popped.rest;
           is = sym (flat_map-append (stray_reply (length left.engine.sessions)) popped served.popped.rest) ∙ ap (flat_map (stray_reply (length left.engine.sessions))) served.popped.is
-              ∙ ap (λ n. flat_map (stray_reply n) served.side.tail.pushed) count ∙ sym answered.strays_are ∙ ap (flat_map (stray_told caller.number)) (sym leaves.leaves.strays_are);
+              ∙ ap (λ n. flat_map (stray_reply n) served.side.tail.pushed) count ∙ sym answered.strays_are ∙ ap (flat_map (stray_told report.number)) (sym leaves.leaves.strays_are);
         };
       }
 
   -- each library of the record
-  each : (P : LibReport → Type 0) → ((place : ℕ) (caller : Caller) → slice_get run.callers.items place ≡ Some caller → IsBorneOut no_entries board left.engine.strays (report_of caller) → P (report_of caller)) → EachLibrary left P
-  each P of place report at =
-      let one = mapped_from report_of run.callers.items place report (subst (λ all. slice_get all place ≡ Some report) leaves.libraries at) in
-      let borne = all_at (IsBorneOut no_entries board left.engine.strays) left.libraries place report borne_out at in (
-        ap (λ (r : LibReport). r.number) one.is ∙ (lived place one.from one.at).number,
-        subst P (sym one.is) (of place one.from one.at (subst (IsBorneOut no_entries board left.engine.strays) one.is borne)),
-      )
+  each : (P : LibReport → Type 0) → ((place : ℕ) (report : LibReport) → IsReported config.asks no_entries board engine.sessions place report → P report) → EachLibrary left P
+  each P holds place report at = (let of = reported place report at in (of.number ∙ of.is.number, holds place report of))
 
   pub prefix_reads : EachLibrary left (λ report. ReadsPrefixes left report)
-  prefix_reads = each (ReadsPrefixes left) (λ place caller at borne. reads_prefixes (report_of caller) borne)
+  prefix_reads = each (ReadsPrefixes left) (λ place report of. reads_prefixes report of.borne_out)
 
   pub every_send : EachLibrary left (λ report. IsSent left report)
-  every_send = each (IsSent left) (λ place caller at borne. all_sent (report_of caller) borne)
+  every_send = each (IsSent left) (λ place report of. all_sent report of.borne_out)
 
   pub every_reply : EachLibrary left (λ report. IsRepliedTo left report)
-  every_reply = each (IsRepliedTo left) (λ place caller at borne. all_replied place caller at)
+  every_reply = each (IsRepliedTo left) life_replied
 
   -- a stray of one of the libraries
   one_stray : (stray : Stray) → Contains left.engine.strays stray → IsStray left stray
   one_stray stray has = record {
     unknown = λ from to.
-        let many = ap length leaves.libraries ∙ length-map run.callers.items report_of in
-        let caller = there_is run.callers.items (stray.library - 1) (omega arith) in
-        let one = lived (stray.library - 1) caller.0 caller.1 in
-        let answered : IsAnswered no_entries board run.engine.sessions.strays.items stray.library one.served.side = leaves.accounted.answered stray.library one.served.side from one.served.found in
+        let there = there_is left.libraries (stray.library - 1) (omega arith) in
+        let of = reported (stray.library - 1) there.0 there.1 in
+        let side = of.is.served.side in
+        let answered : IsAnswered no_entries board strays stray.library side =
+        subst (λ n. IsAnswered no_entries board strays n side) (omega arith) (side_at (stray.library - 1) there.0 of) in
         let refusal = notices.Refused stray.nr stray.s (UnknownSession stray.s) in
         let tells : stray_told stray.library stray ≡ refusal ∷ [] = ap (λ (b : Bool). if b then refusal ∷ [] else []) (eq-eqb stray.library stray.library refl) in
         let told : Contains (flat_map (stray_told stray.library) left.engine.strays) refusal = among (stray_told stray.library) left.engine.strays stray refusal tells has in
-        let replied_so : Contains (flat_map (stray_reply (length board.sessions)) one.served.side.tail.pushed) refusal =
+        let replied_so : Contains (flat_map (stray_reply (length board.sessions)) side.tail.pushed) refusal =
         subst (λ (ns : List Notice). Contains ns refusal) (ap (flat_map (stray_told stray.library)) leaves.leaves.strays_are ∙ answered.strays_are) told in
-        let far : length board.sessions ≤ stray.s = All-contains (IsFar (length board.sessions)) (flat_map (stray_reply (length board.sessions)) one.served.side.tail.pushed) refusal (all_far (length board.sessions) one.served.side.tail.pushed) replied_so in
+        let far : length board.sessions ≤ stray.s = All-contains (IsFar (length board.sessions)) (flat_map (stray_reply (length board.sessions)) side.tail.pushed) refusal (all_far (length board.sessions) side.tail.pushed) replied_so in
         let count = count_is in
         omega arith;
   }

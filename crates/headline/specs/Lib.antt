@@ -2,3 +2,4 @@ pub mod Ends
 pub mod Headline
 pub mod Numbering
 pub mod Wrong
+pub mod Finished

@@ -1,13 +1,15 @@
 //! Laws of the definitions. Each is the contract of a function that does nothing.
 
-ghost use Rattle.std.specs.Prelude.{◌≡◌, ℕ, List};
+ghost use Rattle.std.specs.Prelude.{◌≡◌, ℕ, Bool, List, Option, None};
 ghost use Rattle.std.specs.List.{All};
 ghost use Rattle.engine_config.specs.Config.{IsConfig};
 ghost use Rattle.engine_config.specs.declared.config.Config.{Config};
 ghost use Rattle.engine_end.specs.Finishing.{GathersAll};
 ghost use Rattle.engine_end.specs.Records.{HasLawfulJournal};
 ghost use Rattle.gate_io.specs.MemWire.{link_at};
+ghost use Rattle.gate_io.specs.Wire.{Door, Link};
 ghost use Rattle.headline.specs.Ends.{AllEndedWhole};
+ghost use Rattle.headline.specs.Finished.{IsFinished};
 ghost use Rattle.headline.specs.Headline.{Headline};
 ghost use Rattle.headline.specs.Numbering.{AreInOrder, IsInOrder};
 ghost use Rattle.headline.specs.Wrong.{AnswersUnbound, BindsNone, BindsOneTwice, BindsTwoAtOnce, CountsWhatNeverCame, GivesBackWhatRuns, HasTwoOwners, IsRefuted, IsRepliedToTwice, LogsNoArrival, LogsNoNumber, ReadsElsewhere, SendsForAnother, ShareOneConnection, SkipsNumbers, StandsWhereItWasLeft, StraysAtHome, TakesBackFromNobody, WritesWhatIsNotTold};
@@ -21,6 +23,8 @@ ghost use Rattle.script_run.specs.Runs.{Carries, CarriesOut};
 ghost use Rattle.script_run.specs.declared.run.Run.{Run};
 ghost use Rattle.script_text.specs.declared.steps.Script.{Script};
 ghost use Rattle.script_text.specs.declared.steps.Step.{Step};
+ghost use Rattle.serve_laws.specs.Served.{AnyReadings};
+ghost use Rattle.serve_run.specs.Serves.{Serves, connections_of};
 ghost use Rattle.session_core.specs.State.{State};
 
 use engine_laws::laws::{
@@ -31,8 +35,10 @@ use lease_core::laws::{holdings_adjoin, one_owner_at_a_time};
 use library_api::replies_close_requests;
 use library_desk::laws::serving_happens;
 use run_laws::laws::{
-    kept_calls_tell, libraries_live, runs_are_accounted_for, runs_go_on, scripts_are_accounted_for,
+    engines_are_accounted_for, kept_calls_tell, libraries_live, runs_are_accounted_for, runs_go_on,
+    scripts_are_accounted_for,
 };
+use serve_laws::laws::{drives_are_accounted_for, served_scripts_are_accounted_for};
 use switchboard::laws::boards_go_on;
 use text_laws::laws::texts_are_taken;
 
@@ -66,6 +72,35 @@ pub fn connections_end_whole()
     lines_are_accounted_for();
     steps_are_accounted_for();
     runs_are_accounted_for();
+}
+
+/// The headline holds of each record that serving a script leaves, however the threads came between one another, where its journals are those
+/// of registries and nothing had come at the wire before; and the wire tells of the connections what it does then.
+pub fn served_headlines_hold()
+    ensures headline { (script : Script) (turns : ℕ) (wide : Bool) (old new : Door) (old_links new_links : ℕ → Link) (left : RunRecord) (spent : Option ℕ)
+        → Serves script turns wide AnyReadings old new old_links new_links left spent → IsConfig script.config → old.accepted ≡ 0 → old.dialled ≡ 0 → All HasLawfulJournal left.engine.sessions
+        → Headline script.config new_links left }
+    // Where no turns were spent nothing is left to wait for.
+    ensures finished { (script : Script) (turns : ℕ) (wide : Bool) (old new : Door) (old_links new_links : ℕ → Link) (left : RunRecord)
+        → Serves script turns wide AnyReadings old new old_links new_links left None → old.accepted ≡ 0 → old.dialled ≡ 0 → IsFinished (connections_of script.config) left }
+{
+    connections_are_numbered();
+    connections_end_whole();
+    boards_go_on();
+    accounts_are_whole();
+    happenings_are_accounted_for();
+    sessions_are_accounted_for();
+    lines_are_accounted_for();
+    steps_are_accounted_for();
+    serving_happens();
+    holdings_adjoin();
+    one_owner_at_a_time();
+    replies_close_requests();
+    kept_calls_tell();
+    engines_are_accounted_for();
+    texts_are_taken();
+    drives_are_accounted_for();
+    served_scripts_are_accounted_for();
 }
 
 /// The headline holds of each record that a script means, where its journals are those of registries, and the wire

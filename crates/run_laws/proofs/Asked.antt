@@ -5,6 +5,7 @@ use Rattle.std.proofs.lemmas.List.{append-nil, append_assoc}
 use Rattle.std.specs.List.{flat_map}
 use Rattle.std.specs.Prelude.{nat_le, if◌then◌else◌}
 use Rattle.lease_core.specs.declared.messages.Command.{Command}
+use Rattle.lease_core.specs.declared.messages.Command.TheVariants as commands
 use Rattle.lease_core.specs.declared.messages.Notice.{Notice}
 use Rattle.lease_core.specs.declared.messages.Notice.TheVariants as notices
 use Rattle.library_api.specs.Calls.{AreLawful, Call, IsLawful, after_call, after_calls, asks, beats, gives_back, hand_refused, is_done, meets, polls, release_refused, send_refused, sends}
@@ -12,7 +13,7 @@ use Rattle.library_api.specs.Ends.{seat_after_beat}
 use Rattle.library_api.specs.Known.{Known, holds, with_seat}
 use Rattle.library_api.specs.Polls.{Found, Polled, after_grant, after_message, after_notice, after_poll, after_pop, after_published, after_taking_up, saw_published, saw_word, shows, taken_up, with_none_kept, with_request_closed}
 use Rattle.library_api.specs.Releases.{after_hand_refused, after_release_refused}
-use Rattle.library_api.specs.Requests.{after_asking}
+use Rattle.library_api.specs.Requests.{after_asking, after_done}
 use Rattle.library_api.specs.Sends.{after_refusing}
 use Rattle.library_api.specs.declared.reading.Message.{Message}
 use Rattle.library_api.specs.declared.refusal.AskError.{AskError}
@@ -24,9 +25,11 @@ use Rattle.library_api.specs.declared.refusal.ReleaseRefusal.TheVariants as rele
 use Rattle.library_api.specs.declared.refusal.SendRefusal.{SendRefusal}
 use Rattle.library_api.specs.declared.refusal.SendRefusal.TheVariants as sending
 use Rattle.library_laws.specs.Replies.{asked_by}
-use Rattle.run_laws.specs.Lives.{AreKeptAs, IsKeptAs}
+use Rattle.ring_links.specs.declared.queue.Full.{Full}
+use Rattle.run_laws.specs.Lives.{AreKept, IsInVain, IsKeptAs, IsReportedAs}
 use Rattle.run_laws.specs.Reports.{ask_kept, asks_kept}
 use Rattle.run_report.specs.declared.calls.Call.{Call as Kept}
+use Rattle.run_report.specs.declared.calls.Call.TheVariants as calls
 
 -- what a library pushed
 abbrev pushed_of : Known → List Command
@@ -105,10 +108,38 @@ call_asks k beats kept lawful is = no_ask k (after_call k beats) kept refl (ap a
 call_asks k (is_done finished taken answer) kept lawful is = absurd is
 call_asks k (meets ends) kept lawful is = no_ask k (after_call k (meets ends)) kept lawful.pushed (ap asks_kept is)
 
-pub calls_ask : (k : Known) (made : List Call) (kept : List Kept) → AreLawful k made → AreKeptAs k made kept → AddsAsks k (after_calls k made) kept
+vain_ask : (one : Kept) → IsInVain one → asks_kept (one ∷ []) ≡ []
+vain_ask (calls.Request s from (Ok nr)) vain = elim vain [
+  | inl idle ↦ (let clash : false ≡ true = idle in absurd (cc))
+  | inr full ↦ (let clash : false ≡ true = full in absurd (cc))
+]
+vain_ask (calls.Request s from (Err why)) vain = refl
+vain_ask (calls.Poll event) vain = refl
+vain_ask (calls.Send s body answer) vain = refl
+vain_ask (calls.Release s answer) vain = refl
+vain_ask (calls.Hand s heir answer) vain = refl
+vain_ask calls.Beat vain = refl
+
+-- the word that all is done asks for nothing
+done_asks : (k : Known) (finished : Bool) (taken : ℕ) (answer : Result (Unit {0}) (Full Command)) → flat_map asked_by (pushed_of (after_done k (commands.Done finished) taken answer)) ≡ flat_map asked_by (pushed_of k)
+done_asks k finished taken (Ok unit) = flat_map-append asked_by (pushed_of k) (commands.Done finished ∷ []) ∙ append-nil (flat_map asked_by (pushed_of k))
+done_asks k finished taken (Err full) = ap (flat_map asked_by) (append-nil (pushed_of k))
+
+reported_asks : (k : Known) (call : Call) (kept : List Kept) → IsLawful k call → IsReportedAs k call kept → AddsAsks k (after_call k call) kept
+reported_asks k call kept lawful is = elim is [
+  | inl own ↦ call_asks k call kept lawful own
+  | inr beside ↦ elim beside [
+    | inl out ↦ call_asks k call (out.one ∷ []) lawful out.is ∙ ap (λ more. flat_map asked_by (pushed_of k) ++ more) (vain_ask out.one out.vain ∙ sym (ap asks_kept out.none))
+    | inr ends ↦ (
+        let same = ap (λ c. flat_map asked_by (pushed_of (after_call k c))) ends.is ∙ done_asks k ends.finished ends.taken ends.answer in
+        same ∙ (sym (append-nil (flat_map asked_by (pushed_of k))) ∙ ap (λ more. flat_map asked_by (pushed_of k) ++ more) (sym (ap asks_kept ends.none))))
+  ]
+]
+
+pub calls_ask : (k : Known) (made : List Call) (kept : List Kept) → AreLawful k made → AreKept IsReportedAs k made kept → AddsAsks k (after_calls k made) kept
 calls_ask k [] kept lawful none = no_ask k k kept refl (ap asks_kept none)
 calls_ask k (call ∷ made) kept lawful are =
     calls_ask (after_call k call) made are.1 lawful.1 are.4
-    ∙ (ap (λ front. front ++ asks_kept are.1) (call_asks k call are.0 lawful.0 are.3)
+    ∙ (ap (λ front. front ++ asks_kept are.1) (reported_asks k call are.0 lawful.0 are.3)
     ∙ (append_assoc (flat_map asked_by (pushed_of k)) (asks_kept are.0) (asks_kept are.1)
     ∙ ap (λ more. flat_map asked_by (pushed_of k) ++ more) (sym (ap asks_kept are.2 ∙ flat_map-append ask_kept are.0 are.1))))

@@ -1,5 +1,5 @@
 -- What a kept call is of a library's calls, and that its seat keeps its number and its sessions.
-use Rattle.std.proofs.Common.{◌≡◌, inl, inr, ℕ, List, [], ◌∷◌, length, true, false, refl, sym, ap, subst, Bool, Option, None, Some, Result, Ok, Err, ◌∙◌}
+use Rattle.std.proofs.Common.{◌≡◌, inl, inr, ℕ, List, [], ◌∷◌, true, false, refl, sym, ap, subst, Bool, Option, None, Some, Result, Ok, Err, ◌∙◌}
 use Rattle.std.proofs.lemmas.List.{length-set}
 use Rattle.std.specs.Prelude.{nat_lt, nat_le, if◌then◌else◌, slice_set}
 use Rattle.lease_core.specs.declared.messages.Notice.{Notice}
@@ -27,17 +27,12 @@ use Rattle.library_api.specs.declared.refusal.Released.{Released}
 use Rattle.library_api.specs.declared.refusal.SendRefusal.{SendRefusal}
 use Rattle.library_api.specs.declared.refusal.SendRefusal.TheVariants as sending
 use Rattle.library_api.specs.declared.waited.WaitKind.TheVariants.{Free}
-use Rattle.run_laws.specs.Lives.{IsKeptAs}
+use Rattle.run_laws.specs.Lives.{IsKeptAs, SeatStays}
 use Rattle.run_report.specs.declared.calls.Call.{Call as Kept}
 use Rattle.run_report.specs.declared.calls.Call.TheVariants as calls
 use Rattle.library_calls.specs.Calls.{Hands, MakesCall, Polls, Releases, Requests, SendsTo}
 use Rattle.script_text.specs.declared.steps.LibStep.{LibStep}
 use Rattle.script_text.specs.declared.steps.LibStep.TheVariants as act
-
--- its seat has the number and as many sessions as before
-pub record SeatStays (old new : Known) : Type 0 where
-  pub number : new.ends.seat.knows.number ≡ old.ends.seat.knows.number
-  pub sessions : length new.ends.seat.knows.sessions ≡ length old.ends.seat.knows.sessions
 
 stays_further : (first second third : Known) → SeatStays first second → SeatStays second third → SeatStays first third
 stays_further first second third one two = record { number = two.number ∙ one.number; sessions = two.sessions ∙ one.sessions }

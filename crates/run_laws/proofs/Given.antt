@@ -11,7 +11,7 @@ use Rattle.lease_words.specs.Leases.{Each, FitsEnding, Stands}
 use Rattle.lease_words.specs.declared.view.LibraryLease.{LibraryLease}
 use Rattle.library_api.specs.Calls.{Call, Deed, after_call, asks, beats, deeds_by, deeds_in, deeds_of, did_give, did_send, end_by, gives_back, hand_refused, is_done, meets, polls, release_refused, send_refused, sends, sends_by}
 use Rattle.library_api.specs.Known.{Known, held, sends_made}
-use Rattle.run_laws.specs.Lives.{AreKeptAs, IsKeptAs}
+use Rattle.run_laws.specs.Lives.{AreKept, IsKeptAs, IsReportedAs}
 use Rattle.run_laws.specs.Reports.{IsGivenBack}
 use Rattle.run_report.specs.declared.calls.Call.{Call as Kept}
 use Rattle.run_report.specs.declared.calls.Call.TheVariants as calls
@@ -68,15 +68,24 @@ call_gave k beats kept is = one_given (DidIn k beats) _ kept is tt
 call_gave k (is_done finished taken answer) kept is = absurd is
 call_gave k (meets ends) kept is = subst (All (OnGiven (DidIn k (meets ends)))) (sym is) (All-nil (OnGiven (DidIn k (meets ends))))
 
+reported_gave : (k : Known) (call : Call) (kept : List Kept) → IsReportedAs k call kept → All (OnGiven (DidIn k call)) kept
+reported_gave k call kept is = elim is [
+  | inl own ↦ call_gave k call kept own
+  | inr beside ↦ elim beside [
+    | inl out ↦ subst (All (OnGiven (DidIn k call))) (sym out.none) (All-nil (OnGiven (DidIn k call)))
+    | inr ends ↦ subst (All (OnGiven (DidIn k call))) (sym ends.none) (All-nil (OnGiven (DidIn k call)))
+  ]
+]
+
 abbrev pub DidBy : Known → List Call → ℕ → Deed → Type 0
 DidBy k made s deed = Contains (deeds_of s k made) deed
 
-pub calls_gave : (k : Known) (made : List Call) (kept : List Kept) → AreKeptAs k made kept → All (OnGiven (DidBy k made)) kept
+pub calls_gave : (k : Known) (made : List Call) (kept : List Kept) → AreKept IsReportedAs k made kept → All (OnGiven (DidBy k made)) kept
 calls_gave k [] kept none = subst (All (OnGiven (DidBy k []))) (sym none) (All-nil (OnGiven (DidBy k [])))
 calls_gave k (call ∷ made) kept are =
     let D = DidBy k (call ∷ made) in
     subst (All (OnGiven D)) (sym are.2) (All-append (OnGiven D) are.0 are.1
-    (all_more (DidIn k call) D (λ s deed has. Contains-append_left (deeds_in s k call) (deeds_of s (after_call k call) made) deed has) are.0 (call_gave k call are.0 are.3))
+    (all_more (DidIn k call) D (λ s deed has. Contains-append_left (deeds_in s k call) (deeds_of s (after_call k call) made) deed has) are.0 (reported_gave k call are.0 are.3))
     (all_more (DidBy (after_call k call) made) D (λ s deed has. Contains-append_right (deeds_in s k call) (deeds_of s (after_call k call) made) deed has) are.1
     (calls_gave (after_call k call) made are.1 are.4)))
 

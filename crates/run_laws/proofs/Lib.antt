@@ -2,11 +2,13 @@ mod Asked
 mod Borne
 mod Calls
 mod Carried
+mod Engines
 mod Given
 mod GoingOn
 mod Grants
 mod Lived
 mod Numbers
+mod Open
 mod Places
 mod Settled
 mod Sides

@@ -1,32 +1,40 @@
 -- The libraries of a run live on, step by step.
-use Rattle.std.proofs.Common.{◌≡◌, ◌≢◌, inl, inr, ℕ, zero, suc, ◌+◌, ◌-◌, ◌<◌, ◌≤◌, List, [], ◌∷◌, ◌++◌, length, None, Some, refl, ap, subst, sym, ◌∙◌, arith}
+use Rattle.std.proofs.Common.{◌≡◌, ◌≢◌, inl, inr, ℕ, zero, suc, ◌+◌, ◌-◌, ◌<◌, ◌≤◌, Bool, List, [], ◌∷◌, ◌++◌, length, None, Some, Result, refl, ap, subst, sym, ◌∙◌, arith}
 use Rattle.std.proofs.lemmas.Bool.{cases_lt}
 use Rattle.std.proofs.lemmas.List.{append-nil, append_assoc, length-replicate}
 use Rattle.std.proofs.lemmas.Option.{slice_get_within}
 use Rattle.std.specs.List.{flat_map}
 use Rattle.std.specs.Prelude.{replicate, slice_get, slice_index_or, slice_set}
 use Rattle.engine_config.specs.declared.config.Config.{Config}
-use Rattle.engine_end.specs.Meeting.{SeatsMeet}
+use Rattle.engine_end.specs.Meeting.{RingsMeet, SeatsMeet}
 use Rattle.engine_loop.specs.declared.engine.Engine.{Engine}
 use Rattle.lease_words.specs.Tells.{library_sessions_after_meeting}
 use Rattle.lease_words.specs.Views.{EngineView, LibraryView, TableRef, library_at, no_library_session}
 use Rattle.lease_words.specs.declared.view.EngineSession.{EngineSession}
 use Rattle.lease_words.specs.declared.view.LibrarySession.{LibrarySession}
 use Rattle.lease_core.specs.declared.entry.Entry.{Entry}
-use Rattle.library_api.specs.Calls.{AreLawful, AreNumbered, Call, HasMet, IsLawful, after_call, after_calls, meets, numbers_in, numbers_to}
+use Rattle.lease_core.specs.declared.messages.Command.{Command}
+use Rattle.lease_core.specs.declared.messages.Command.TheVariants as commands
+use Rattle.lease_core.specs.declared.messages.Notice.{Notice}
+use Rattle.library_api.specs.Calls.{AreLawful, AreNumbered, Call, HasMet, IsLawful, after_call, after_calls, is_done, meets, numbers_in, numbers_to}
+use Rattle.library_api.specs.Ends.{EndsView}
 use Rattle.library_api.specs.Known.{Known, new_library}
 use Rattle.library_api.specs.Laws.{RequestsAreNumbered}
 use Rattle.library_api.specs.Replies.{AreReplies, HoldsThroughout, replies_in}
+use Rattle.library_api.specs.Requests.{after_done}
+use Rattle.library_calls.specs.Calls.{MakesCall}
 use Rattle.library_desk.specs.declared.desk.LibraryDesk.{LibraryDesk}
 use Rattle.library_desk.specs.declared.ends.EngineEnds.{EngineEnds}
 use Rattle.library_desk.specs.declared.shared.Shared.{Shared}
 use Rattle.library_laws.specs.Replies.{AreAnswered, answered_by, asked_by}
+use Rattle.ring_links.specs.Ends.{HeadView, TailView}
+use Rattle.ring_links.specs.declared.queue.Full.{Full}
 use Rattle.run_laws.specs.Accounted.{IsAccountedRun}
-use Rattle.run_laws.specs.Lives.{AreKeptAs, HasLived, HaveLived, IsKeptAs, IsLibraryOf, IsRepliedInOrder, IsServedAt}
+use Rattle.run_laws.specs.Lives.{AreKept, AreUnused, DesksMeet, HasLived, HaveLived, IsInVain, IsKeptAs, IsLibraryOf, IsRepliedInOrder, IsReportedAs, IsServedAt, Life, life_of}
 use Rattle.script_run.specs.declared.callers.Caller.{Caller}
 use Rattle.script_run.specs.declared.run.Run.{Run}
 use Rattle.run_laws.proofs.Calls.{call_made}
-use Rattle.run_laws.proofs.Carried.{Laws, carried as account_carried, met as account_met}
+use Rattle.run_laws.proofs.Carried.{RunLaws, carried as account_carried, met as account_met}
 use Rattle.run_laws.proofs.GoingOn.{made_turn}
 use Rattle.run_laws.proofs.Numbers.{answers_met, replies_met}
 use Rattle.run_laws.proofs.Places.{OfEach, each_behind, get_set_other, get_set_same}
@@ -51,15 +59,16 @@ pub lawful_append : (k : Known) (calls more : List Call) → AreLawful k calls �
 lawful_append k [] more first then = then
 lawful_append k (call ∷ calls) more first then = (first.0, lawful_append (after_call k call) calls more first.1 then)
 
-kept_append : (k : Known) (calls more : List Call) (first then : List Kept) → AreKeptAs k calls first → AreKeptAs (after_calls k calls) more then → AreKeptAs k (calls ++ more) (first ++ then)
-kept_append k [] more first then none is = subst (λ kept. AreKeptAs k more (kept ++ then)) (sym none) is
-kept_append k (call ∷ calls) more first then are is =
-    (are.0, are.1 ++ then, ap (λ kept. kept ++ then) are.2 ∙ append_assoc are.0 are.1 then, are.3, kept_append (after_call k call) calls more are.1 then are.4 is)
+pub kept_append : (Keeps : Known → Call → List Kept → Type 0) (k : Known) (calls more : List Call) (first then : List Kept) → AreKept Keeps k calls first → AreKept Keeps (after_calls k calls) more then
+    → AreKept Keeps k (calls ++ more) (first ++ then)
+kept_append Keeps k [] more first then none is = subst (λ kept. AreKept Keeps k more (kept ++ then)) (sym none) is
+kept_append Keeps k (call ∷ calls) more first then are is =
+    (are.0, are.1 ++ then, ap (λ kept. kept ++ then) are.2 ∙ append_assoc are.0 are.1 then, are.3, kept_append Keeps (after_call k call) calls more are.1 then are.4 is)
 
 -- one call more
-abbrev lived_on : (requests : ℕ) (old new : Caller) (call : Call) (kept : List Kept) → new.library ≡ after_call old.library call → IsLawful old.library call → IsKeptAs old.library call kept
-    → new.calls.items ≡ old.calls.items ++ kept → HasLived requests old → HasLived requests new
-lived_on requests old new call kept after lawful is_kept calls was =
+abbrev pub lived_on : (Keeps : Known → Call → List Kept → Type 0) (requests : ℕ) (old new : Life) (call : Call) (kept : List Kept) → new.library ≡ after_call old.library call → IsLawful old.library call → Keeps old.library call kept
+    → new.calls ≡ old.calls ++ kept → HasLived Keeps requests old → HasLived Keeps requests new
+lived_on Keeps requests old new call kept after lawful is_kept calls was =
     let k = new_library was.first requests in
     let last = after_calls k was.made in
     record {
@@ -68,8 +77,8 @@ lived_on requests old new call kept after lawful is_kept calls was =
       made = was.made ++ call ∷ [];
       lawful = lawful_append k was.made (call ∷ []) was.lawful (subst (λ (now : Known). IsLawful now call) was.known lawful, tt);
       known = after ∙ (ap (λ (now : Known). after_call now call) was.known ∙ sym (after_append k was.made (call ∷ [])));
-      kept = subst (AreKeptAs k (was.made ++ call ∷ [])) (sym calls)
-          (kept_append k was.made (call ∷ []) old.calls.items kept was.kept (kept, [], sym (append-nil kept), subst (λ (now : Known). IsKeptAs now call kept) was.known is_kept, refl));
+      kept = subst (AreKept Keeps k (was.made ++ call ∷ [])) (sym calls)
+          (kept_append Keeps k was.made (call ∷ []) old.calls kept was.kept (kept, [], sym (append-nil kept), subst (λ (now : Known). Keeps now call kept) was.known is_kept, refl));
     }
 
 -- a meeting gives a seat no session
@@ -93,39 +102,72 @@ session_met part engine_old engine_new library_old library_new is within small s
       ap part (past_end library_new.knows.sessions s no_library_session (omega arith) ∙ sym (past_end library_old.knows.sessions s no_library_session (omega arith))))
 ]
 
-has_met : (engine_old engine_new : Engine) (old new : Caller) → MeetsCaller engine_old engine_new old new → length old.library.ends.seat.knows.sessions ≤ engine_old.sessions.desk.seat.table.shape.sessions
-    → HasMet old.library.ends new.library.ends
-has_met engine_old engine_new old new is within =
-    let seat_old = engine_old.sessions.desk.seat in
-    let seat_new = engine_new.sessions.desk.seat in
-    record {
-      leases = session_met (λ ls. ls.leases) seat_old seat_new old.library.ends.seat new.library.ends.seat is.seats within (λ s small. ap (λ (ls : LibrarySession). ls.leases) (is.seats.library_session s small));
-      items = session_met (λ ls. ls.items) seat_old seat_new old.library.ends.seat new.library.ends.seat is.seats within (λ s small. ap (λ (ls : LibrarySession). ls.items) (is.seats.library_session s small));
-      pushed = ap (λ tail. tail.pushed) is.rings.commands.tail;
-      popped = ap (λ head. head.popped) is.rings.notices.head;
-    }
+-- the ends of a library that meets the engine
+module _ (number : ℕ) (engine_old engine_new : LibraryDesk) (old new : EndsView) (seats : SeatsMeet engine_old.desk.seat engine_new.desk.seat old.seat new.seat)
+    (rings : RingsMeet number engine_old engine_new old.tail new.tail old.head new.head) (within : length old.seat.knows.sessions ≤ engine_old.desk.seat.table.shape.sessions) where
+  pub has_met : HasMet old new
+  has_met = record {
+    leases = session_met (λ ls. ls.leases) engine_old.desk.seat engine_new.desk.seat old.seat new.seat seats within (λ s small. ap (λ (ls : LibrarySession). ls.leases) (seats.library_session s small));
+    items = session_met (λ ls. ls.items) engine_old.desk.seat engine_new.desk.seat old.seat new.seat seats within (λ s small. ap (λ (ls : LibrarySession). ls.items) (seats.library_session s small));
+    pushed = ap (λ tail. tail.pushed) rings.commands.tail;
+    popped = ap (λ head. head.popped) rings.notices.head;
+  }
 
 abbrev meeting_lived : (requests : ℕ) (engine_old engine_new : Engine) (old new : Caller) → MeetsCaller engine_old engine_new old new → length old.library.ends.seat.knows.sessions ≤ engine_old.sessions.desk.seat.table.shape.sessions
-    → HasLived requests old → HasLived requests new
+    → HasLived IsKeptAs requests (life_of old) → HasLived IsKeptAs requests (life_of new)
 meeting_lived requests engine_old engine_new old new is within was =
-    lived_on requests old new (meets new.library.ends) [] (ap (λ (c : Caller). c.library) is.caller) (has_met engine_old engine_new old new is within) refl
+    lived_on IsKeptAs requests (life_of old) (life_of new) (meets new.library.ends) [] (ap (λ (c : Caller). c.library) is.caller)
+    (has_met old.number engine_old.sessions engine_new.sessions old.library.ends new.library.ends is.seats is.rings within) refl
     (ap (λ (c : Caller). c.calls.items) is.caller ∙ sym (append-nil old.calls.items)) was
 
 -- what holds of each library, where that at one place may have popped what its meeting tells
 record IsAlmost (requests : ℕ) (d : LibraryDesk) (place j : ℕ) (caller : Caller) : Type 0 where
   number : caller.number ≡ j + 1
-  lived : HasLived requests caller
-  replied : j ≢ place → IsRepliedInOrder requests caller lived
-  pending : AreReplies caller.library → IsRepliedInOrder requests caller lived
+  lived : HasLived IsKeptAs requests (life_of caller)
+  replied : j ≢ place → IsRepliedInOrder requests (life_of caller) lived
+  pending : AreReplies caller.library → IsRepliedInOrder requests (life_of caller) lived
   seat : length caller.library.ends.seat.knows.sessions ≤ d.desk.seat.table.shape.sessions
-  served : j ≢ place → IsServedAt d.ends.items j caller
+  served : j ≢ place → IsServedAt d.ends.items j (life_of caller)
+
+-- what each library of a run is
+abbrev OfRun : ℕ → LibraryDesk → ℕ → Caller → Type 0
+OfRun requests d place caller = IsLibraryOf requests d place (life_of caller)
 
 -- ends at another place
-served_beside : (ends : List EngineEnds) (place j : ℕ) (after : EngineEnds) (caller : Caller) → j ≢ place → IsServedAt ends j caller → IsServedAt (slice_set ends place after) j caller
-served_beside ends place j after caller other was = record { side = was.side; found = get_set_other ends place j after other ∙ was.found; popped = was.popped; heard = was.heard; asked = was.asked; kept = was.kept; answers = was.answers }
+pub served_beside : (ends : List EngineEnds) (place j : ℕ) (after : EngineEnds) (life : Life) → j ≢ place → IsServedAt ends j life → IsServedAt (slice_set ends place after) j life
+served_beside ends place j after life other was = record { side = was.side; found = get_set_other ends place j after other ∙ was.found; popped = was.popped; heard = was.heard; asked = was.asked; kept = was.kept; answers = was.answers }
 
-place_is : (number place : ℕ) → number ≡ place + 1 → number - 1 ≡ place
+pub place_is : (number place : ℕ) → number ≡ place + 1 → number - 1 ≡ place
 place_is number place is = omega arith
+
+-- a library's side is found by its number
+slice_side : (place number : ℕ) (side : EngineEnds) (ends : List EngineEnds) → number ≡ place + 1 → slice_get ends place ≡ Some side → slice_get ends (number - 1) ≡ Some side
+slice_side place number side ends is found = subst (λ j. slice_get ends j ≡ Some side) (sym (place_is number place is)) found
+
+-- A library that met the engine is served at its place.
+module _ (before : ℕ → List Entry) (place number : ℕ) (engine_old engine_new : LibraryDesk) (tail_old : TailView Command) (head_old : HeadView Notice) (life : Life)
+    (rings : RingsMeet number engine_old engine_new tail_old life.library.ends.tail head_old life.library.ends.head) (number_is : number ≡ place + 1) (answered : AreAnswered before engine_new) where
+  found_there : slice_get engine_new.ends.items place ≡ Some rings.after
+  found_there =
+      let at : number - 1 ≡ place = place_is number place number_is in
+      let found : slice_get engine_old.ends.items place ≡ Some rings.before = subst (λ k. slice_get engine_old.ends.items k ≡ Some rings.before) at rings.found in
+      let ends : engine_new.ends.items ≡ slice_set engine_old.ends.items place rings.after = rings.ends ∙ ap (λ k. slice_set engine_old.ends.items k rings.after) at in
+      ap (λ all. slice_get all place) ends ∙ get_set_same engine_old.ends.items place rings.after (slice_get_within engine_old.ends.items place rings.before found)
+
+  pub each_answered : flat_map answered_by rings.after.tail.pushed ≡ flat_map asked_by rings.after.head.popped
+  each_answered = (answered number rings.after (omega arith) (slice_side place number rings.after engine_new.ends.items number_is found_there)).each
+
+  pub met_served : IsServedAt engine_new.ends.items place life
+  met_served = record {
+    side = rings.after;
+    found = found_there;
+    popped = record { rest = life.library.ends.head.told; is = rings.notices.pushed };
+    heard = rings.after.head.popped;
+    asked = record { rest = rings.after.head.told; is = rings.commands.pushed };
+    kept = begins_itself rings.after.head.popped;
+    answers = answers_met life.library.ends.head.popped life.library.ends.head.told rings.after.tail.pushed rings.after.head.popped rings.after.head.told life.library.ends.tail.pushed
+        rings.notices.pushed rings.commands.pushed each_answered;
+  }
 
 -- one call more, behind which the replies are in order
 replied_on : (k : Known) (calls : List Call) (call : Call) → HoldsThroughout AreReplies k calls → AreReplies (after_calls k (calls ++ call ∷ [])) → HoldsThroughout AreReplies k (calls ++ call ∷ [])
@@ -140,67 +182,48 @@ same_replies old new popped asked are = record {
 }
 
 -- the requests of a library are numbered
-pub requests_numbered : RequestsAreNumbered → (requests : ℕ) (caller : Caller) → HasLived requests caller → AreNumbered caller.library
-requests_numbered law requests caller lived =
+pub requests_numbered : RequestsAreNumbered → (Keeps : Known → Call → List Kept → Type 0) (requests : ℕ) (life : Life) → HasLived Keeps requests life → AreNumbered life.library
+requests_numbered law Keeps requests life lived =
     let k = new_library lived.first requests in
     subst AreNumbered (sym lived.known) (law k lived.made lived.lawful (record {
       numbers = ap numbers_in lived.unused.pushed;
       last = λ nr none. absurd (let impossible : None ≡ Some nr = none in cc);
     }))
 
--- a library's side is found by its number
-slice_side : (place number : ℕ) (side : EngineEnds) (ends : List EngineEnds) → number ≡ place + 1 → slice_get ends place ≡ Some side → slice_get ends (number - 1) ≡ Some side
-slice_side place number side ends is found = subst (λ j. slice_get ends j ≡ Some side) (sym (place_is number place is)) found
-
 abbrev meets_at : Caller → Call
 meets_at caller = meets caller.library.ends
 
-module _ (numbered : RequestsAreNumbered) (before : ℕ → List Entry) (start : ℕ → State) (laws : Laws before start) where
+module _ (numbered : RequestsAreNumbered) (before : ℕ → List Entry) (start : ℕ → State) (laws : RunLaws before start) where
   met : (requests place : ℕ) (old new : Run) → Meets place old new → AreAnswered before new.engine.sessions → OfEach (IsAlmost requests old.engine.sessions place) old → HaveLived requests new
   met requests place old new is answered was =
       let one = is.caller in
       let meets = one.changes in
       let rings = meets.rings in
       let own = was place one.before one.found in
-      let at : one.before.number - 1 ≡ place = place_is one.before.number place own.number in
+      let number : one.before.number ≡ place + 1 = own.number in
       let table : new.engine.sessions.desk.seat.table ≡ old.engine.sessions.desk.seat.table = ap (λ (v : EngineView). v.table) meets.seats.engine in
-      let found : slice_get old.engine.sessions.ends.items place ≡ Some rings.before = subst (λ k. slice_get old.engine.sessions.ends.items k ≡ Some rings.before) at rings.found in
-      let ends : new.engine.sessions.ends.items ≡ slice_set old.engine.sessions.ends.items place rings.after = rings.ends ∙ ap (λ k. slice_set old.engine.sessions.ends.items k rings.after) at in
-      each_behind (IsAlmost requests old.engine.sessions place) (IsLibraryOf requests new.engine.sessions) (MeetsCaller old.engine new.engine) place old new one
+      let ends : new.engine.sessions.ends.items ≡ slice_set old.engine.sessions.ends.items place rings.after = rings.ends ∙ ap (λ k. slice_set old.engine.sessions.ends.items k rings.after) (place_is one.before.number place number) in
+      each_behind (IsAlmost requests old.engine.sessions place) (OfRun requests new.engine.sessions) (MeetsCaller old.engine new.engine) place old new one
       (λ j caller other is. record {
         number = is.number;
         lived = is.lived;
         replied = is.replied other;
         seat = subst (λ (t : TableRef). length caller.library.ends.seat.knows.sessions ≤ t.shape.sessions) (sym table) is.seat;
-        served = subst (λ all. IsServedAt all j caller) (sym ends) (served_beside old.engine.sessions.ends.items place j rings.after caller other (is.served other));
+        served = subst (λ all. IsServedAt all j (life_of caller)) (sym ends) (served_beside old.engine.sessions.ends.items place j rings.after (life_of caller) other (is.served other));
       })
       (λ is. record {
         number = ap (λ (c : Caller). c.number) meets.caller ∙ is.number;
         lived = meeting_lived requests old.engine new.engine one.before one.after meets is.seat is.lived;
         replied =
             let on = meeting_lived requests old.engine new.engine one.before one.after meets is.seat is.lived in
-            let number : one.before.number ≡ place + 1 = own.number in
-            let side = slice_side place one.before.number rings.after new.engine.sessions.ends.items number (ap (λ all. slice_get all place) ends ∙ get_set_same old.engine.sessions.ends.items place rings.after (slice_get_within old.engine.sessions.ends.items place rings.before found)) in
-            let each = (answered one.before.number rings.after (omega arith) side).each in
+            let each = each_answered before place one.before.number old.engine.sessions new.engine.sessions _ _ (life_of one.after) rings number answered in
             let now : AreReplies one.after.library = replies_met one.after.library one.after.library.ends.head.told rings.after.tail.pushed rings.after.head.popped rings.after.head.told
-            (requests_numbered numbered requests one.after on) rings.notices.pushed rings.commands.pushed each in
+            (requests_numbered numbered IsKeptAs requests (life_of one.after) on) rings.notices.pushed rings.commands.pushed each in
             let then : AreReplies one.before.library = same_replies one.before.library one.after.library (ap (λ head. head.popped) rings.notices.head) (ap (λ (c : Caller). c.library.asked) meets.caller) now in
             replied_on (new_library is.lived.first requests) is.lived.made (meets_at one.after) (is.pending then) (subst AreReplies on.known now);
         seat = (let shorter = seat_met old.engine.sessions.desk.seat new.engine.sessions.desk.seat one.before.library.ends.seat one.after.library.ends.seat meets.seats in
             subst (λ (t : TableRef). length one.after.library.ends.seat.knows.sessions ≤ t.shape.sessions) (sym table) (omega (arith, is.seat)));
-        served = record {
-          side = rings.after;
-          found = ap (λ all. slice_get all place) ends ∙ get_set_same old.engine.sessions.ends.items place rings.after (slice_get_within old.engine.sessions.ends.items place rings.before found);
-          popped = record { rest = one.after.library.ends.head.told; is = rings.notices.pushed };
-          heard = rings.after.head.popped;
-          asked = record { rest = rings.after.head.told; is = rings.commands.pushed };
-          kept = begins_itself rings.after.head.popped;
-          answers =
-              let side = slice_side place one.before.number rings.after new.engine.sessions.ends.items own.number (ap (λ all. slice_get all place) ends ∙ get_set_same old.engine.sessions.ends.items place rings.after (slice_get_within old.engine.sessions.ends.items place rings.before found)) in
-              let number : one.before.number ≡ place + 1 = own.number in
-              answers_met one.after.library.ends.head.popped one.after.library.ends.head.told rings.after.tail.pushed rings.after.head.popped rings.after.head.told one.after.library.ends.tail.pushed
-              rings.notices.pushed rings.commands.pushed (answered one.before.number rings.after (omega arith) side).each;
-        };
+        served = met_served before place one.before.number old.engine.sessions new.engine.sessions _ _ (life_of one.after) rings number answered;
       }) was
 
   called : (what : LibStep) (requests place : ℕ) (old new : Run) → CallsAt what place old new → HaveLived requests old → OfEach (IsAlmost requests new.engine.sessions place) new
@@ -210,14 +233,14 @@ module _ (numbered : RequestsAreNumbered) (before : ℕ → List Entry) (start :
       let engine : new.engine ≡ old.engine = ap (λ (run : Run). run.engine) is.rest in
       let made = call_made what calls.call one.before.library one.after.library calls.makes in
       subst (λ (e : Engine). OfEach (IsAlmost requests e.sessions place) new) (sym engine)
-      (each_behind (IsLibraryOf requests old.engine.sessions) (IsAlmost requests old.engine.sessions place) (CallsAs what) place old new one
+      (each_behind (OfRun requests old.engine.sessions) (IsAlmost requests old.engine.sessions place) (CallsAs what) place old new one
       (λ j caller other is. record { number = is.number; lived = is.lived; replied = λ beside. is.replied; pending = λ now. is.replied; seat = is.seat; served = λ beside. is.served })
       (λ is. record {
         number = ap (λ (c : Caller). c.number) calls.rest ∙ is.number;
-        lived = lived_on requests one.before one.after made.made (calls.call ∷ []) made.after made.lawful made.kept calls.told is.lived;
+        lived = lived_on IsKeptAs requests (life_of one.before) (life_of one.after) made.made (calls.call ∷ []) made.after made.lawful made.kept calls.told is.lived;
         replied = λ beside. absurd (beside refl);
         pending = λ now.
-            let on = lived_on requests one.before one.after made.made (calls.call ∷ []) made.after made.lawful made.kept calls.told is.lived in
+            let on = lived_on IsKeptAs requests (life_of one.before) (life_of one.after) made.made (calls.call ∷ []) made.after made.lawful made.kept calls.told is.lived in
             replied_on (new_library is.lived.first requests) is.lived.made made.made is.replied (subst AreReplies on.known now);
         seat = subst (λ n. n ≤ old.engine.sessions.desk.seat.table.shape.sessions) (sym made.stays.sessions) is.seat;
         served = λ beside. absurd (beside refl);
@@ -235,7 +258,7 @@ module _ (numbered : RequestsAreNumbered) (before : ℕ → List Entry) (start :
   -- the engine and the libraries stay
   untouched : (requests : ℕ) (old new : Run) → new.engine ≡ old.engine → new.callers ≡ old.callers → HaveLived requests old → HaveLived requests new
   untouched requests old new engine callers was place caller found =
-      subst (λ (e : Engine). IsLibraryOf requests e.sessions place caller) (sym engine) (was place caller (subst (λ vec. slice_get vec.items place ≡ Some caller) callers found))
+      subst (λ (e : Engine). IsLibraryOf requests e.sessions place (life_of caller)) (sym engine) (was place caller (subst (λ vec. slice_get vec.items place ≡ Some caller) callers found))
 
   turned : (requests : ℕ) (old new : Run) → TurnsOver old new → HaveLived requests old → HaveLived requests new
   turned requests old new is was place caller found =
@@ -330,3 +353,38 @@ first_lived config moment shared run starts place caller found =
         answers = record { rest = flat_map asked_by caller.library.ends.tail.pushed; is = ap (λ ns. flat_map answered_by ns ++ flat_map asked_by caller.library.ends.tail.pushed) popped };
       };
     }
+
+-- A library's life, whoever makes its calls.
+pub lives : (requests : ℕ) (life : Life) → AreUnused life.library.ends → life.library ≡ new_library life.library.ends requests → life.calls ≡ [] → HasLived IsReportedAs requests life
+lives requests life unused is none = record { first = life.library.ends; unused = unused; made = []; lawful = tt; known = is; kept = none }
+
+pub reported : (requests : ℕ) (what : LibStep) (call : Kept) (old new : Life) → MakesCall what call old.library new.library → new.calls ≡ old.calls ++ call ∷ [] → HasLived IsReportedAs requests old → HasLived IsReportedAs requests new
+reported requests what call old new makes calls was =
+    let made = call_made what call old.library new.library makes in
+    lived_on IsReportedAs requests old new made.made (call ∷ []) made.after made.lawful (inl made.kept) calls was
+
+-- what isn't kept
+none_more : (old new : Life) → new.calls ≡ old.calls → new.calls ≡ old.calls ++ []
+none_more old new same = same ∙ sym (append-nil old.calls)
+
+pub waited : (requests : ℕ) (what : LibStep) (call : Kept) (old new : Life) → MakesCall what call old.library new.library → IsInVain call → new.calls ≡ old.calls → HasLived IsReportedAs requests old → HasLived IsReportedAs requests new
+waited requests what call old new makes vain same was =
+    let made = call_made what call old.library new.library makes in
+    lived_on IsReportedAs requests old new made.made [] made.after made.lawful (inr (inl (record { one = call; is = made.kept; vain = vain; none = refl }))) (none_more old new same) was
+
+pub told_end : (requests : ℕ) (finished : Bool) (taken : ℕ) (answer : Result (Unit {0}) (Full Command)) (old new : Life) → new.library ≡ after_done old.library (commands.Done finished) taken answer → new.calls ≡ old.calls
+    → HasLived IsReportedAs requests old → HasLived IsReportedAs requests new
+told_end requests finished taken answer old new is same was =
+    lived_on IsReportedAs requests old new (is_done finished taken answer) [] is tt (inr (inr (record { finished = finished; taken = taken; answer = answer; is = refl; none = refl }))) (none_more old new same) was
+
+pub met_lived : (requests number : ℕ) (engine_old engine_new : LibraryDesk) (old new : Life) → DesksMeet number engine_old engine_new old.library.ends new.library.ends
+    → length old.library.ends.seat.knows.sessions ≤ engine_old.desk.seat.table.shape.sessions → new.library ≡ record (old.library) { ends = new.library.ends } → new.calls ≡ old.calls
+    → HasLived IsReportedAs requests old → HasLived IsReportedAs requests new
+met_lived requests number engine_old engine_new old new is within library same was =
+    lived_on IsReportedAs requests old new (meets new.library.ends) [] library (has_met number engine_old engine_new old.library.ends new.library.ends is.seats is.rings within) (inl refl) (none_more old new same) was
+
+pub met_beside : (place j number : ℕ) (engine_old engine_new : LibraryDesk) (tail_old tail_new : TailView Command) (head_old head_new : HeadView Notice) (life : Life) → j ≢ place
+    → RingsMeet number engine_old engine_new tail_old tail_new head_old head_new → number ≡ place + 1 → IsServedAt engine_old.ends.items j life → IsServedAt engine_new.ends.items j life
+met_beside place j number engine_old engine_new tail_old tail_new head_old head_new life other rings number_is was =
+    let ends : engine_new.ends.items ≡ slice_set engine_old.ends.items place rings.after = rings.ends ∙ ap (λ k. slice_set engine_old.ends.items k rings.after) (place_is number place number_is) in
+    subst (λ all. IsServedAt all j life) (sym ends) (served_beside engine_old.ends.items place j rings.after life other was)

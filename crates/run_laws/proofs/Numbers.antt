@@ -50,7 +50,7 @@ numbers-append [] ds = refl
 numbers-append (commands.Request nr s from ∷ cs) ds = ap (λ numbers. nr ∷ numbers) (numbers-append cs ds)
 numbers-append (commands.Done finished ∷ cs) ds = numbers-append cs ds
 
-replies-append : (ns ms : List Notice) → replies_in (ns ++ ms) ≡ replies_in ns ++ replies_in ms
+pub replies-append : (ns ms : List Notice) → replies_in (ns ++ ms) ≡ replies_in ns ++ replies_in ms
 replies-append [] ms = refl
 replies-append (notices.Granted nr s lease from start ∷ ns) ms = ap (λ numbers. nr ∷ numbers) (replies-append ns ms)
 replies-append (notices.Refused nr s why ∷ ns) ms = ap (λ numbers. nr ∷ numbers) (replies-append ns ms)

@@ -3,6 +3,7 @@ use Rattle.std.proofs.Common.{◌≡◌, inl, inr, ℕ, zero, suc, ◌<◌, List
 use Rattle.std.proofs.lemmas.Bool.{cases_lt}
 use Rattle.std.specs.Prelude.{◌≤◌, slice_index_or}
 use Rattle.engine_config.specs.declared.config.Config.{Config}
+use Rattle.engine_loop.specs.declared.engine.Engine.{Engine}
 use Rattle.engine_laws.specs.Account.{IsAccountedFor}
 use Rattle.engine_start.specs.Starts.{StartsSessions, configured_book}
 use Rattle.engine_config.specs.Config.{dial_of, names_of}
@@ -21,7 +22,7 @@ use Rattle.switchboard.specs.Told.{machines_of}
 use Rattle.run_laws.specs.Accounted.{AreNumbered, first_machines, no_entries}
 use Rattle.library_desk.specs.declared.shared.Shared.{Shared}
 use Rattle.script_run.specs.declared.run.Run.{Run}
-use Rattle.script_run.specs.Means.{StartsRun}
+use Rattle.script_run.specs.Means.{StartsEngineOf, StartsRun}
 
 -- the engine has a session whose journal is empty
 nobody_owns : owner_of (state_of []) ≡ 0
@@ -81,8 +82,8 @@ numbered config moment shared run starts =
     }
 
 -- each session has its cursor
-pub cursors_are : (config : Config) (moment : ℕ) (shared : Shared) (run : Run) → StartsRun config moment shared run → length run.engine.sessions.cursors.items ≡ length run.engine.sessions.desk.board.sessions
-cursors_are config moment shared run starts = starts.engine.desk.cursors.count ∙ sym starts.engine.sessions.count
+pub cursors_are : (config : Config) (moment : ℕ) (shared : Shared) (engine : Engine) → StartsEngineOf config moment shared engine → length engine.sessions.cursors.items ≡ length engine.sessions.desk.board.sessions
+cursors_are config moment shared engine starts = starts.desk.cursors.count ∙ sym starts.sessions.count
 
 -- the moment is that at which the engine begins
 pub moment_is : (config : Config) (moment : ℕ) (shared : Shared) (run : Run) → StartsRun config moment shared run → run.engine.moment ≡ moment

@@ -1,10 +1,13 @@
 -- What holds of a run between two lines of its script, and of the record that it leaves.
-use Rattle.std.specs.Prelude.{◌≡◌, ◌≢◌, ℕ, ◌+◌, ◌<◌, ◌⊎◌, List, [], length, map, slice_get, None, Some}
+use Rattle.std.specs.Prelude.{◌≡◌, ◌≢◌, ℕ, ◌+◌, ◌<◌, ◌≤◌, ◌⊎◌, List, [], length, map, slice_get, None, Some}
 use Rattle.std.specs.List.{Contains}
 use Rattle.engine_config.specs.Config.{dial_of, names_of}
 use Rattle.engine_config.specs.declared.config.Config.{Config}
+use Rattle.engine_end.specs.Finishing.{GathersAll, after_settling}
 use Rattle.engine_end.specs.Records.{IsLeftBy}
 use Rattle.engine_laws.specs.Account.{IsAccountedFor}
+use Rattle.engine_loop.specs.Engines.{until_of}
+use Rattle.engine_loop.specs.declared.engine.Engine.{Engine}
 use Rattle.engine_start.specs.Starts.{configured_book}
 use Rattle.gate_io.specs.MemWire.{link_at}
 use Rattle.gate_io.specs.Wire.{Link}
@@ -19,6 +22,7 @@ use Rattle.library_desk.specs.declared.desk.LibraryDesk.{LibraryDesk}
 use Rattle.library_laws.specs.Feeds.{AreFed}
 use Rattle.library_laws.specs.Replies.{AreAnswered}
 use Rattle.library_laws.specs.Sends.{AreLogged, AreTaken}
+use Rattle.run_report.specs.declared.records.LibReport.{LibReport}
 use Rattle.run_report.specs.declared.records.RunRecord.{RunRecord}
 use Rattle.script_run.specs.declared.callers.Caller.{Caller}
 use Rattle.script_run.specs.declared.run.Run.{Run}
@@ -77,9 +81,9 @@ abbrev pub AllLeasesStand : Board → List LibraryView → Type 0
 AllLeasesStand board seats =
     (s : ℕ) (seat : LibraryView) → s < length board.sessions → Contains seats seat → LeasesStand (lines_of (book_at board s).entries) seat.knows.number (library_at seat s).leases
 
--- the sessions of a run, once each was gathered at its end
-abbrev pub gathered_of : Run → LeaseDesk → LibraryDesk
-gathered_of run gathered = record (run.engine.sessions) { desk = gathered }
+-- the sessions of an engine, once each was gathered at the end
+abbrev pub gathered_of : Engine → LeaseDesk → LibraryDesk
+gathered_of engine gathered = record (engine.sessions) { desk = gathered }
 
 -- A connection that has ended took its outbound text, in the words of its session's journal, or its writing was cut short.
 abbrev pub TookTextOrCutShort : (ℕ → List Entry) → Board → (ℕ → Link) → ℕ → Type 0
@@ -89,15 +93,23 @@ TookTextOrCutShort before board links k = TookTextOf before board k (connection_
 abbrev pub EndedTookTexts : (ℕ → List Entry) → Board → (ℕ → Link) → Type 0
 EndedTookTexts before board links = (k : ℕ) → k < length board.connections → (connection_at board k).cause ≢ None → TookTextOrCutShort before board links k
 
--- What a run leaves is accounted for: it is left by sessions and connections that are, behind the last gathering, by which each log has all that the libraries sent.
--- What a run leaves is accounted for: it is left by sessions and connections that are, behind the last gathering, by which each log has all that the libraries sent, and each
--- journal all that they did by their leases.
-pub record LeavesAccounted (before : ℕ → List Entry) (start : ℕ → State) (run : Run) (left : RunRecord) : Type 0 where
+-- a seat's number is one of the table's
+abbrev pub FitsTable : ℕ → LibraryView → Type 0
+FitsTable libraries seat = (1 ≤ seat.knows.number) × (seat.knows.number ≤ libraries)
+
+-- What an engine and its libraries leave is accounted for, where these are their seats and reports: once the seats are taken in each session is gathered, by
+-- which each log has all that the libraries sent, and each journal all that they did by their leases. Then sessions and connections leave the record.
+pub record LeavesAccounted (before : ℕ → List Entry) (start : ℕ → State) (engine : Engine) (links : ℕ → Link) (seats : List LibraryView) (reports : List LibReport) (left : RunRecord) : Type 0 where
   pub gathered : LeaseDesk
-  pub goes_on : GoesOnTo run.engine.sessions.desk.board gathered.board
-  pub accounted : IsAccountedAt before start run.engine.moment (gathered_of run gathered)
-  pub leaves : IsLeftBy gathered.board run.engine.sessions.strays.items run.engine.accepted left.engine.added left.engine
-  pub logged : AllAreLogged before gathered.board (map seat_of run.callers.items)
-  pub texts : EndedTookTexts before gathered.board (link_at run.wire)
-  pub leases : AllLeasesStand gathered.board (map seat_of run.callers.items)
-  pub libraries : left.libraries ≡ map report_of run.callers.items
+  pub gathers : GathersAll engine.moment (until_of engine) (after_settling seats engine.sessions.desk) gathered
+  pub goes_on : GoesOnTo engine.sessions.desk.board gathered.board
+  pub accounted : IsAccountedAt before start engine.moment (gathered_of engine gathered)
+  pub leaves : IsLeftBy gathered.board engine.sessions.strays.items engine.accepted left.engine.added left.engine
+  pub logged : AllAreLogged before gathered.board seats
+  pub texts : EndedTookTexts before gathered.board links
+  pub leases : AllLeasesStand gathered.board seats
+  pub libraries : left.libraries ≡ reports
+
+-- what a run of a script leaves
+abbrev pub RunLeavesAccounted : (ℕ → List Entry) → (ℕ → State) → Run → RunRecord → Type 0
+RunLeavesAccounted before start run left = LeavesAccounted before start run.engine (link_at run.wire) (map seat_of run.callers.items) (map report_of run.callers.items) left

@@ -1,5 +1,5 @@
 -- What a library's report says, and that the sessions' journals and logs at the end of its run bear it out.
-use Rattle.std.specs.Prelude.{◌≡◌, ◌⊎◌, ℕ, ◌-◌, ◌<◌, ◌≤◌, ◌==◌, if◌then◌else◌, List, [], ◌∷◌, ◌++◌, length, map, slice_get, Some, Ok, Err}
+use Rattle.std.specs.Prelude.{◌≡◌, ◌⊎◌, ℕ, ◌+◌, ◌-◌, ◌<◌, ◌≤◌, ◌==◌, if◌then◌else◌, List, [], ◌∷◌, ◌++◌, length, map, slice_get, Some, Ok, Err}
 use Rattle.std.specs.List.{All, Contains, flat_map}
 use Rattle.lease_core.specs.declared.entry.Entry.{Entry}
 use Rattle.lease_core.specs.Lines.{lines_of}
@@ -11,14 +11,15 @@ use Rattle.library_api.specs.Calls.{numbers_to}
 use Rattle.library_api.specs.Known.{reading_count}
 use Rattle.library_api.specs.Posts.{Post}
 use Rattle.library_api.specs.Reads.{numbers_from, read_by}
-use Rattle.library_api.specs.Replies.{IsRepliedTo}
+use Rattle.library_api.specs.Replies.{reply_count}
 use Rattle.library_api.specs.declared.event.Event.{Event}
 use Rattle.library_api.specs.declared.event.Event.TheVariants as events
+use Rattle.library_desk.specs.declared.desk.LibraryDesk.{LibraryDesk}
 use Rattle.library_desk.specs.declared.desk.Stray.{Stray}
 use Rattle.library_laws.specs.Replies.{Ask, answered_by, replies_told, reply_of, stray_told}
 use Rattle.library_laws.specs.Sends.{logged_bodies}
 use Rattle.message_log.specs.declared.entry.OutEntry.{OutEntry}
-use Rattle.script_run.specs.declared.callers.Caller.{Caller}
+use Rattle.run_laws.specs.Lives.{IsLifeAt, Life}
 use Rattle.run_laws.specs.Sides.{Begins}
 use Rattle.run_report.specs.declared.calls.Call.{Call as Kept}
 use Rattle.run_report.specs.declared.calls.Call.TheVariants as calls
@@ -144,10 +145,18 @@ pub record IsBorneOut (before : ℕ → List Entry) (board : Board) (strays : Li
   pub told : All (HandsOn (IsTold board strays report.number)) report.calls
 
 -- The requests that a library's calls made have the numbers 1, 2 and so on. The replies that it popped are those of its first requests, in order, by number and
--- session. All were replied to and none is open, or all but the last, which is open. It was told the replies of each session in the order in which its journal
--- tells them.
-pub record IsRepliedAtEnd (before : ℕ → List Entry) (board : Board) (caller : Caller) : Type 0 where
-  pub numbers : map (λ (ask : Ask). ask.nr) (asks_kept caller.calls.items) ≡ numbers_to caller.library.asked
-  pub answers : Begins (flat_map answered_by caller.library.ends.head.popped) (asks_kept caller.calls.items)
-  pub replied : IsRepliedTo caller.library
-  pub replies : (s : ℕ) → s < length board.sessions → AreRepliesTold caller.number s (before s) (book_at board s).entries caller.library.ends.head.popped
+-- session, and at most the last request has none. It was told the replies of each session in the order in which its journal tells them.
+pub record IsRepliedAtEnd (before : ℕ → List Entry) (board : Board) (life : Life) : Type 0 where
+  pub numbers : map (λ (ask : Ask). ask.nr) (asks_kept life.calls) ≡ numbers_to life.library.asked
+  pub answers : Begins (flat_map answered_by life.library.ends.head.popped) (asks_kept life.calls)
+  pub few : life.library.asked ≤ reply_count life.library + 1
+  pub replies : (s : ℕ) → s < length board.sessions → AreRepliesTold life.number s (before s) (book_at board s).entries life.library.ends.head.popped
+
+-- What is reported of a library at its place is what it did, as the run ends, and is borne out.
+pub record IsReported (requests : ℕ) (before : ℕ → List Entry) (board : Board) (d : LibraryDesk) (place : ℕ) (report : LibReport) : Type 0 where
+  pub life : Life
+  pub is : IsLifeAt requests d place life
+  pub number : report.number ≡ life.number
+  pub calls : report.calls ≡ life.calls
+  pub replied : IsRepliedAtEnd before board life
+  pub borne_out : IsBorneOut before board d.strays.items report

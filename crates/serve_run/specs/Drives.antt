@@ -1,8 +1,10 @@
 -- The engine's side of a run: its turns, one after another.
 use Rattle.std.specs.Prelude.{◌≡◌, ℕ, ◌≤◌, Bool, true, false, List, [], ◌∷◌, ◌++◌}
+use Rattle.engine_loop.specs.Engines.{IsAtWork, IsOnline}
 use Rattle.engine_loop.specs.Turns.{AtWire, MakesTurn}
 use Rattle.engine_loop.specs.declared.records.Turn.{Turn}
 use Rattle.lease_desk.specs.Desk.{InTurn}
+use Rattle.library_desk.specs.declared.shared.Shared.{Shared}
 use Rattle.serve_run.specs.Ended.{IsOver}
 
 -- The engine at its wire, the turns that it made, and what it read of the clock in them.
@@ -22,8 +24,11 @@ pub record MakesAndWaits (reading : ℕ) (turn : Turn) (old new : AtWire) : Type
   pub door : new.door ≡ made.door
   pub links : (c : ℕ) → new.links c ≡ made.links c
 
--- one turn more
+-- one turn more, of an engine that is at work over its wire
 pub record DrivesOnce (old new : Drive) : Type 0 where
+  pub shared : Shared
+  pub work : IsAtWork shared old.at.engine
+  pub online : IsOnline old.at.engine old.at.door old.at.links
   pub turn : Turn
   pub reading : ℕ
   pub makes : MakesAndWaits reading turn old.at new.at

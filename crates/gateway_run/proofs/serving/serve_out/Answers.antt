@@ -1,9 +1,20 @@
 use Rattle.std.proofs.Common.{refl}
-use Rattle.gateway_run.proofs.Served.{served_by}
+use Rattle.gateway_run.proofs.Served.{none_spent, served_by, whatever_read}
 use Rattle.gateway_run.proofs.serving.serve_out.Goals as goal
 
 pub returns-in-Ok-clause-served : goal.returns-in-Ok-clause-served
 returns-in-Ok-clause-served g c =
     rw c.with_spent.ensures (served_by _ c.args.turns _ _ _ _ _ _ c.write-status.result c.in-Ok.field-0.spent c.in-Ok.field-0.run
-    (record { script = c.args.script; is = refl; serves = record { links = g.W.Wire.link c.args.wire.now; same = λ k. refl; serves = c.in-Ok.ensures.serves } })
+    (record {
+      script = c.args.script;
+      is = refl;
+      serves = record {
+        links = g.W.Wire.link c.args.wire.now;
+        same = λ k. refl;
+        serves = c.in-Ok.ensures.serves;
+        headline = c.served_headlines_hold.ensures.headline c.args.script c.args.turns _ _ _ _ _ _ _ (whatever_read c.args.script c.args.turns _ _ _ _ _ _ _ _ c.in-Ok.ensures.serves) c.requires.lawful.config.fits c.requires.accepted c.requires.dialled c.in-Ok.ensures.journals;
+        finished = λ none. c.served_headlines_hold.ensures.finished c.args.script c.args.turns _ _ _ _ _ _
+            (none_spent _ _ _ _ _ _ _ _ _ none (whatever_read c.args.script c.args.turns _ _ _ _ _ _ _ _ c.in-Ok.ensures.serves)) c.requires.accepted c.requires.dialled;
+      };
+    })
     c.in-Ok.ensures.journals c.write-status.ensures)

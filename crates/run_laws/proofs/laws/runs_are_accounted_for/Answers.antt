@@ -1,19 +1,14 @@
-use Rattle.std.proofs.Common.{ℕ, List, subst}
-use Rattle.engine_laws.specs.Account.{IsAccountedFor}
+use Rattle.std.proofs.Common.{ℕ, List}
 use Rattle.gate_io.specs.MemWire.{link_at}
 use Rattle.lease_core.specs.declared.entry.Entry.{Entry}
-use Rattle.library_laws.specs.Replies.{AreAnswered}
-use Rattle.library_laws.specs.Sends.{AreTaken}
-use Rattle.run_laws.specs.Accounted.{no_entries}
 use Rattle.run_laws.proofs.GoingOn.{GoingLaws}
-use Rattle.run_laws.proofs.Carried.{Laws, carried, carried_out, left_behind}
-use Rattle.run_laws.proofs.Starts.{by_machines, cursors_are, none_before, not_owned, numbered}
+use Rattle.run_laws.proofs.Carried.{RunLaws, carried, carried_out, left_behind}
+use Rattle.run_laws.proofs.Starts.{numbered}
 use Rattle.run_laws.proofs.laws.runs_are_accounted_for.Goals as goal
 use Rattle.session_core.specs.State.{State}
-use Rattle.switchboard.specs.Ready.{IsReady, entries_of}
-use Rattle.switchboard.specs.Told.{machines_of}
+use Rattle.switchboard.specs.Ready.{entries_of}
 
-going : goal.After-sends_are_taken → GoingLaws
+going : goal.After-engines_are_accounted_for → GoingLaws
 going c = record {
   itself = c.boards_go_on.ensures.itself;
   further = c.boards_go_on.ensures.further;
@@ -22,45 +17,22 @@ going c = record {
   serves = c.serving_happens.ensures.serves;
 }
 
-laws : goal.After-sends_are_taken → (before : ℕ → List Entry) (start : ℕ → State) → Laws before start
+laws : goal.After-engines_are_accounted_for → (before : ℕ → List Entry) (start : ℕ → State) → RunLaws before start
 laws c before start = record {
   going = going c;
-  turn_ready = c.turns_are_accounted_for.ensures.ready before;
-  turn_account = c.turns_are_accounted_for.ensures.account before start;
-  turn_answered = c.requests_are_answered.ensures.turn before;
-  turn_fed = c.messages_are_in_order.ensures.turn;
-  turn_taken = c.sends_are_taken.ensures.turn before;
-  meets_answered = c.requests_are_answered.ensures.meets before;
-  meets_fed = c.messages_are_in_order.ensures.meets;
-  meets_taken = c.sends_are_taken.ensures.meets before;
-  gathers_account = c.sessions_are_accounted_for.ensures.gathers;
-  itself = c.happenings_are_accounted_for.ensures.itself;
-  further = c.happenings_are_accounted_for.ensures.further;
-  gathers_answered = c.requests_are_answered.ensures.gathers before;
-  gathers_fed = c.messages_are_in_order.ensures.gathers;
-  gathers_taken = c.sends_are_taken.ensures.gathers before;
-  finishes = c.sends_are_taken.ensures.finishes before;
+  turn = c.engines_are_accounted_for.ensures.turn before start;
+  meets = c.engines_are_accounted_for.ensures.meets before start;
+  leaves = c.engines_are_accounted_for.ensures.leaves before start;
   text_turn = λ shared. c.texts_are_taken.ensures.turn shared before;
   text_known = c.texts_are_taken.ensures.known;
-  text_gathers = c.texts_are_taken.ensures.gathers before;
-  text_told = c.texts_are_taken.ensures.text before;
 }
 
 pub returns-clause-first : goal.returns-clause-first
 returns-clause-first c = λ config moment shared run starts.
-    let engine = starts.engine in
     let board = run.engine.sessions.desk.board in
-    let none = none_before config board engine.sessions in
     record {
-      texts = c.texts_are_taken.ensures.first (entries_of board) board (link_at run.wire) engine.sessions.first;
-      engine = record {
-        ready = subst (λ before. IsReady before board) none (c.starts_are_accounted_for.ensures.ready config board engine.sessions);
-        account = by_machines config board engine.sessions no_entries run.engine.moment
-            (subst (λ before. IsAccountedFor before (machines_of board) run.engine.moment board) none (c.starts_are_accounted_for.ensures.account config run.engine.moment board engine.sessions));
-        answered = subst (λ before. AreAnswered before run.engine.sessions) none (c.requests_are_answered.ensures.first config moment shared run.engine.sessions engine.desk engine.ends);
-        fed = c.messages_are_in_order.ensures.first config moment shared run.engine.sessions engine.desk engine.ends (cursors_are config moment shared run starts) (not_owned config board engine.sessions);
-        taken = subst (λ before. AreTaken before run.engine.sessions.desk) none (c.sends_are_taken.ensures.first config moment shared run.engine.sessions engine.desk engine.table engine.sessions);
-      };
+      texts = c.texts_are_taken.ensures.first (entries_of board) board (link_at run.wire) starts.engine.sessions.first;
+      engine = c.engines_are_accounted_for.ensures.first config moment shared run.engine starts.engine;
       libraries = numbered config moment shared run starts;
     }
 

@@ -1,4 +1,4 @@
-use Rattle.run_laws.proofs.GoingOn.{GoingLaws, carried, carried_out, made_turn}
+use Rattle.run_laws.proofs.GoingOn.{GoingLaws, carried, carried_out, made_turn, on_further, on_itself}
 use Rattle.run_laws.proofs.laws.runs_go_on.Goals as goal
 
 going : goal.After-serving_happens → GoingLaws
@@ -9,6 +9,12 @@ going c = record {
   joins = c.boards_stay_ready.ensures.further;
   serves = c.serving_happens.ensures.serves;
 }
+
+pub returns-clause-itself : goal.returns-clause-itself
+returns-clause-itself c = on_itself (going c)
+
+pub returns-clause-further : goal.returns-clause-further
+returns-clause-further c = on_further (going c)
 
 pub returns-clause-turn : goal.returns-clause-turn
 returns-clause-turn c = made_turn (going c)

@@ -1,15 +1,29 @@
 use Rattle.std.proofs.Common.{ap, length, ◌∙◌}
 use Rattle.run_laws.specs.Accounted.{first_machines, no_entries}
-use Rattle.run_laws.proofs.Borne.{all_borne_out, all_replied}
+use Rattle.run_laws.proofs.Borne.{ApiLaws, all_borne_out, all_replied, all_reported_of}
 use Rattle.session_book.specs.Book.{Book}
 use Rattle.run_laws.proofs.laws.scripts_are_accounted_for.Goals as goal
 
+laws : goal.After-libraries_live → ApiLaws
+laws c = record {
+  polls_pop = c.replies_close_requests.ensures.popped;
+  polls_close = c.requests_are_numbered.ensures.closed;
+  closed = c.replies_close_requests.ensures.closed;
+  deeds_are_answered = c.deeds_are_answered.ensures;
+  posts_are_sent = c.posts_are_sent.ensures;
+  no_gap = c.reads_have_no_gap.ensures.reads;
+  beginnings = c.reads_have_no_gap.ensures.beginnings;
+  numbered = c.requests_are_numbered.ensures.numbers;
+}
+
+pub returns-clause-reported : goal.returns-clause-reported
+returns-clause-reported c = all_reported_of (laws c)
+
 pub returns-clause-borne_out : goal.returns-clause-borne_out
-returns-clause-borne_out c = all_borne_out c.replies_close_requests.ensures.popped c.replies_close_requests.ensures.closed c.deeds_are_answered.ensures c.posts_are_sent.ensures c.reads_have_no_gap.ensures.reads c.reads_have_no_gap.ensures.beginnings
+returns-clause-borne_out c = all_borne_out (laws c)
 
 pub returns-clause-replied : goal.returns-clause-replied
-returns-clause-replied c =
-    all_replied c.replies_close_requests.ensures.popped c.replies_close_requests.ensures.closed c.deeds_are_answered.ensures c.posts_are_sent.ensures c.reads_have_no_gap.ensures.reads c.reads_have_no_gap.ensures.beginnings c.requests_are_numbered.ensures.numbers
+returns-clause-replied c = all_replied (laws c)
 
 pub returns-clause-means : goal.returns-clause-means
 returns-clause-means c = λ script left is.
@@ -35,6 +49,6 @@ returns-clause-means c = λ script left is.
         names = λ s small. (board.same s).names ∙ ap (λ (book : Book). book.machine.names) (starts.sessions.books s small);
       };
       libraries = goes.libraries ∙ (is.starts.callers.count ∙ starts.table.rings.commands);
-      replied = returns-clause-replied c no_entries start script.config.asks last left leaves lived;
+      replied = returns-clause-replied c no_entries start script.config.asks last left leaves run.libraries lived;
       borne_out = returns-clause-borne_out c no_entries start script.config.asks last left leaves run.libraries lived;
     }

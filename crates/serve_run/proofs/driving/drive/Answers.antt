@@ -41,7 +41,16 @@ loop-made-preserved g c =
         was.drives,
         record {
           going = λ is. c.is_over.ensures.open was.turns own c.if-is_over.false (over_to connections libraries was.turns awaited c.loop-made.engine was.awaits is);
-          drives = record { turn = turn; reading = reading; makes = c.in_ok-turn.ensures.makes; turns_are = refl; readings_are = refl };
+          drives = record {
+            shared = c.args.shared.now;
+            work = was.engine.work was.stands;
+            online = was.engine.online was.stands;
+            turn = turn;
+            reading = reading;
+            makes = c.in_ok-turn.ensures.makes;
+            turns_are = refl;
+            readings_are = refl;
+          };
         },
       );
       reads = takes_more g.C.Clock.has_read c.args.clock.now c.loop-made.clock c.turn.new.clock was.readings (reading ∷ []) was.reads c.in_ok-turn.ensures.reads;

@@ -1,0 +1,4 @@
+mod Planned
+mod Driven
+mod MetAll
+mod Served
