@@ -1,0 +1,125 @@
+#!/usr/bin/env python3
+"""How fast reports are audited, beside plain C that cuts the same lines into words and numbers.
+
+Three kinds of reports, each of about 32 MB and of a tenth of that: the orders of one session, which nobody reads; orders that
+libraries read and answer, lease by lease; and journals alone, whose lines are short. Both programs take each report by
+turns; the times are the least of five. The last ratio of a kind is that of the two sizes' times: near ten where the
+time is linear. Nothing depends on the numbers but the reader.
+"""
+import os
+import subprocess
+import tempfile
+
+ROOT = os.path.dirname(os.path.dirname(os.path.abspath(__file__)))
+CRATE = os.path.join(ROOT, "crates", "audit_speed")
+PROGRAM = os.path.join(CRATE, "out", "audit_speed")
+STAMP = "20260105-09:30:00.000"
+SIZE = 32_000_000
+
+
+def order(k):
+    return f"35=D|49=BUYER|56=GATE|34={k + 2}|52={STAMP}|11=ORDER{k}|55=ACME|54=1|38=100|40=2|44=101.25|"
+
+
+def fill(k):
+    return f"35=8|37=O{k}|17=E{k}|150=0|39=0|55=ACME|54=1|"
+
+
+class Session:
+    """A session's journal as it grows: its entries, holdings, logs and numbers."""
+
+    def __init__(self):
+        self.entries, self.holdings, self.ins, self.outs, self.calls = [], [], [], [], []
+        self.start, self.lease, self.asked, self.reads = 0, 0, 0, 0
+
+    def arrive(self, body):
+        self.entries.append(f" arrive {len(self.ins)}")
+        self.ins.append(body)
+
+    def hold(self, library, lease, since, sends):
+        self.holdings.append(f" holding {library} {lease} from {since} start {self.start} end {len(self.ins)} sends {sends}")
+        self.start = len(self.ins)
+
+    def lease_out(self, orders):
+        """A library gets the session, reads the orders that come, answers each, and gives the session back."""
+        self.hold(0, 0, self.start, 0)
+        self.lease, self.asked, at = self.lease + 1, self.asked + 1, len(self.ins)
+        self.entries.append(f" granted 1 {self.asked} lease {self.lease} from {at} start {at}")
+        self.calls += [f" request 0 {at}: asked {self.asked}", f" poll: granted {self.asked} 0 lease {self.lease} from {at} start {at}"]
+        for k in range(orders):
+            self.arrive(order(at + k))
+            self.calls.append(f" poll: message 0 lease {self.lease} pos {at + k} {order(at + k)}")
+        for k in range(orders):
+            self.outs.append(fill(at + k))
+            self.entries.append(f" send {self.lease} 1 {k + 1} {len(self.outs)}")
+            self.calls.append(f" send 0 {fill(at + k)}: sent {self.lease} {k + 1}")
+        self.entries.append(f" release {self.lease} 1 {orders}")
+        self.calls.append(f" release 0: released {self.lease} {orders}")
+        self.reads += orders
+        self.hold(1, self.lease, at, orders)
+
+    def report(self):
+        self.hold(0, 0, self.start, 0)
+        lines = ["fixgate report 1", f"session 0 GATE BUYER owner 0 lease {self.lease} in {len(self.ins)} out {len(self.outs)}"]
+        lines += self.entries + self.holdings
+        lines += [f" in {k} {body}" for k, body in enumerate(self.ins)]
+        lines += [f" out {k + 1} {STAMP} {body}" for k, body in enumerate(self.outs)]
+        lines += [f"library 1 reads {self.reads}"] + self.calls + ["end", ""]
+        return "\n".join(lines).encode()
+
+
+def unread_orders(size):
+    session = Session()
+    for k in range(size // 115):
+        session.arrive(order(k))
+    return session.report()
+
+
+def read_orders(size):
+    session = Session()
+    for _ in range(size // 43_000):
+        session.lease_out(100)
+    return session.report()
+
+
+def leases_alone(size):
+    session = Session()
+    for _ in range(size // 335):
+        session.lease_out(0)
+    return session.report()
+
+
+KINDS = {"orders that nobody reads": unread_orders, "orders that a library answers": read_orders, "leases without orders": leases_alone}
+
+
+def time_of(command):
+    words = subprocess.run(command, check=True, capture_output=True, text=True).stdout.split()
+    return int(words[0]), words[1]
+
+
+def main():
+    subprocess.run(["rt", "run"], cwd=CRATE, check=True, capture_output=True)
+    with tempfile.TemporaryDirectory() as folder:
+        plain = os.path.join(folder, "plain_words")
+        subprocess.run(["cc", "-O2", "-o", plain, os.path.join(ROOT, "bench", "plain_words.c")], check=True)
+        path = os.path.join(folder, "report")
+        for kind, make in KINDS.items():
+            least = {}
+            for size in (SIZE, SIZE // 10):
+                text = make(size)
+                with open(path, "wb") as file:
+                    file.write(text)
+                ours, theirs = [], []
+                for _ in range(5):
+                    taken, named = time_of([PROGRAM, path])
+                    assert named == "0", (kind, size, named)
+                    ours.append(taken)
+                    theirs.append(time_of([plain, path])[0])
+                least[size] = min(ours)
+                rate = len(text) * 1000 / min(ours)
+                print(f"{kind}: {len(text)} bytes, {rate:.0f} MB a second, {min(ours) / min(theirs):.1f} times plain C")
+            print(f"{kind}: ten times the bytes take {least[SIZE] / least[SIZE // 10]:.1f} times as long")
+
+
+if __name__ == "__main__":
+    main()

@@ -1,0 +1,10 @@
+pub mod Cuts
+pub mod Naturals
+pub mod LineCuts
+pub mod Colons
+pub mod Holds
+pub mod Limits
+pub mod VerdictSteps
+pub mod Standing
+pub mod LawfulSteps
+pub mod LawfulReports
