@@ -1,0 +1,10 @@
+use Rattle.std.proofs.Common.{ap, ◌∙◌}
+use Rattle.example_broker.proofs.Ends.{knows_same}
+use Rattle.example_broker.proofs.driving.turn.Goals as goal
+use Rattle.example_broker.proofs.driving.turn.Goals.{then-is_idle, else-is_idle}
+
+pub returns-clause-engine : goal.returns-clause-engine
+returns-clause-engine g c = elim c.if-is_idle.branch [
+  | then-is_idle w ↦ c.engines_stay.ensures.known _ _ _ _ _ _ (knows_same _ _ _ _ (ap g.W.Wire.door w.wire-is ∙ w.pause.ensures.door_stays) (λ k. ap (λ wire. g.W.Wire.link wire k) w.wire-is ∙ w.pause.ensures.links_stay k)) c.in_ok-turn.ensures.engine
+  | else-is_idle w ↦ c.engines_stay.ensures.known _ _ _ _ _ _ (knows_same _ _ _ _ (ap g.W.Wire.door w.wire-is) (λ k. ap (λ wire. g.W.Wire.link wire k) w.wire-is)) c.in_ok-turn.ensures.engine
+]

@@ -1,0 +1,335 @@
+//! A trading library: its thread's loop.
+
+ghost use Rattle.std.specs.Prelude.{◌≡◌, OnOk, false};
+ghost use Rattle.library_api.specs.Ends.{belongings};
+ghost use Rattle.example_broker.specs.Traders.{IsTrader};
+ghost use Rattle.example_broker.specs.Trades.{AnswersOver, FollowsOn, MovesOn, Round, Trades};
+
+use crate::answering::{Answer, answer_message};
+use crate::calling::{give_back, hand, poll, request};
+use crate::floor::Floor;
+use crate::resting::{NAP, PATIENCE, rest};
+use gate_io::NoMemory;
+use library_api::{Event, Library, Links};
+use library_desk::Shared;
+use std::alloc::Global;
+use std::sync::Wait;
+use std::time::Duration;
+use std::{rt, thread};
+
+/// Behind so many polls in a row that found nothing a library ends, where each connection has ended.
+const QUIET: u64 = PATIENCE + 200;
+
+/// How many rounds a library makes at most before it looks at all sessions.
+const ROUNDS: u32 = 64;
+
+/// How often the word that all is done is tried.
+const TELLINGS: u32 = 10_000;
+
+/// A trading library.
+#[derive(Drop)]
+pub struct Trader {
+    pub(crate) number: u8,
+    pub(crate) library: Library,
+    pub(crate) desk: Desk,
+    /// Memory was wanting to its loop.
+    pub(crate) short: bool,
+}
+
+/// What a library keeps of its own.
+#[derive(Drop)]
+pub struct Desk {
+    pub(crate) number: u8,
+    /// For each session the lease that it was granted, and hasn't lost or given back so far as it knows, or 0.
+    pub(crate) leases: Vec<u32>,
+    /// How many rounds there are to the next look at all sessions.
+    pub(crate) rounds: u32,
+    /// How many messages it read.
+    pub(crate) reads: u64,
+}
+
+impl Trader {
+    /// Trades until each connection has ended and nothing is left to read.
+    pub(crate) fn trade<R: Wait + rt::Clock>(
+        &mut self,
+        rt: &R,
+        alloc: Global,
+        shared: &Shared,
+        floor: &Floor,
+    )
+        requires trader { IsTrader shared.now self.old }
+        ensures trader { IsTrader shared.now self.new }
+    {
+        let place = usize::from(self.number - 1);
+        let links = Links {
+            leases: &shared.leases,
+            commands: &shared.commands[place],
+            notices: &shared.notices[place],
+        };
+        let outcome = trade_all(rt, alloc, &mut self.library, &links, floor, &mut self.desk);
+        self.short = outcome.is_err();
+        give_all_back(&mut self.library, &links, floor, &mut self.desk);
+        tell_done(rt, &mut self.library, &links, floor, !self.short);
+    }
+}
+
+/// Trades, round by round, until each connection has ended and nothing is left to read.
+pub(crate) fn trade_all<R: Wait + rt::Clock>(
+    rt: &R,
+    alloc: Global,
+    library: &mut Library,
+    links: &Links,
+    floor: &Floor,
+    desk: &mut Desk,
+) -> Result<(), NoMemory>
+    requires table { library.old.ends.seat.table ≡ links.now.leases.now }
+    requires tail { library.old.ends.tail.ring ≡ links.now.commands.now }
+    requires head { library.old.ends.head.ring ≡ links.now.notices.now }
+    ensures trades { OnOk result (Trades library.old library.new) }
+    ensures belongings { belongings library.new.ends ≡ belongings library.old.ends }
+{
+    'trading: for _round in rt.forever() {
+        round(rt, alloc, library, links, floor, desk)?;
+        if is_done(library, floor) {
+            return Ok(());
+        }
+    }
+    unreachable!()
+}
+
+/// Whether nothing more is to come.
+fn is_done(library: &Library, floor: &Floor) -> bool {
+    floor.has_stopped() || floor.is_closing() && library.waited().count() > QUIET
+}
+
+/// Looks at the sessions where that is due, polls once, and does what the event is about.
+fn round<R: Wait + rt::Clock>(
+    rt: &R,
+    alloc: Global,
+    library: &mut Library,
+    links: &Links,
+    floor: &Floor,
+    desk: &mut Desk,
+) -> Result<(), NoMemory>
+    requires table { library.old.ends.seat.table ≡ links.now.leases.now }
+    requires tail { library.old.ends.tail.ring ≡ links.now.commands.now }
+    requires head { library.old.ends.head.ring ≡ links.now.notices.now }
+    ensures round { OnOk result (Round library.old library.new) }
+    ensures belongings { belongings library.new.ends ≡ belongings library.old.ends }
+{
+    look_if_due(rt, library, links, floor, desk);
+    let event = poll(library, links);
+    let answered = follow(rt, alloc, library, links, floor, desk, &event)?;
+    if let Some((s, answer)) = answered {
+        part_if_due(library, links, floor, desk, s, answer);
+    }
+    if library.waited().count() > 0 {
+        // The sessions are looked at next.
+        desk.rounds = 0;
+        rest(rt, library);
+    }
+    Ok(())
+}
+
+/// Does what an event is about. Answers what became of a message, and of which session it was.
+fn follow<R: Wait + rt::Clock>(
+    rt: &R,
+    alloc: Global,
+    library: &mut Library,
+    links: &Links,
+    floor: &Floor,
+    desk: &mut Desk,
+    event: &Event,
+) -> Result<Option<(u16, Answer)>, NoMemory>
+    requires table { library.old.ends.seat.table ≡ links.now.leases.now }
+    ensures follows { OnOk result (FollowsOn event.now library.old library.new) }
+    ensures belongings { belongings library.new.ends ≡ belongings library.old.ends }
+{
+    match event {
+        Event::Message { s, pos, bytes, .. } => {
+            desk.reads = desk.reads.saturating_add(1);
+            let answer = answer(rt, alloc, library, links, floor, *s, *pos, bytes.as_slice())?;
+            Ok(Some((*s, answer)))
+        }
+        Event::Granted { s, lease, .. } => {
+            desk.set_lease(*s, *lease);
+            Ok(None)
+        }
+        Event::LeaseLost { s, .. } => {
+            desk.set_lease(*s, 0);
+            Ok(None)
+        }
+        Event::Nothing | Event::NotYet { .. } | Event::Refused { .. } | Event::Stale { .. } => {
+            Ok(None)
+        }
+    }
+}
+
+/// Answers a message over the book of its session, which is this library's alone until the answer is sent.
+fn answer<R: Wait + rt::Clock>(
+    rt: &R,
+    alloc: Global,
+    library: &mut Library,
+    links: &Links,
+    floor: &Floor,
+    s: u16,
+    pos: u64,
+    bytes: &[u8],
+) -> Result<Answer, NoMemory>
+    requires table { library.old.ends.seat.table ≡ links.now.leases.now }
+    ensures answers { OnOk result (AnswersOver s pos bytes.now library.old library.new) }
+    ensures belongings { belongings library.new.ends ≡ belongings library.old.ends }
+{
+    let place = floor.place(s);
+    let mut guard = place.book.lock(rt);
+    let book = &mut *guard;
+    let answer = answer_message(rt, alloc, library, links, floor, s, pos, bytes, book)?;
+    if let Answer::Filled = answer {
+        place.count_fill();
+    }
+    Ok(answer)
+}
+
+/// Behind a message: parts with its session, where that is to go, or where it couldn't be answered.
+fn part_if_due(
+    library: &mut Library,
+    links: &Links,
+    floor: &Floor,
+    desk: &mut Desk,
+    s: u16,
+    answer: Answer,
+)
+    requires table { library.old.ends.seat.table ≡ links.now.leases.now }
+    ensures moves { MovesOn library.old library.new }
+    ensures belongings { belongings library.new.ends ≡ belongings library.old.ends }
+{
+    if let Answer::Gone = answer {
+        floor.place(s).give_back(desk.lease_of(s));
+        give_back(library, links, s);
+        desk.set_lease(s, 0);
+    } else if floor.place(s).keeper(s) != desk.number {
+        hand_over(library, links, floor, desk, s);
+    }
+}
+
+/// Looks at all sessions, where a poll found nothing or there were enough rounds.
+fn look_if_due<R: Wait>(
+    rt: &R,
+    library: &mut Library,
+    links: &Links,
+    floor: &Floor,
+    desk: &mut Desk,
+)
+    requires table { library.old.ends.seat.table ≡ links.now.leases.now }
+    requires tail { library.old.ends.tail.ring ≡ links.now.commands.now }
+    ensures moves { MovesOn library.old library.new }
+    ensures belongings { belongings library.new.ends ≡ belongings library.old.ends }
+{
+    if desk.rounds > 0 {
+        desk.rounds -= 1;
+        return;
+    }
+    desk.rounds = ROUNDS;
+    'looking: for s in 0..floor.sessions() {
+        look_at(rt, library, links, floor, desk, s);
+    }
+}
+
+/// Takes a session that this library is to have, or lets another one go.
+fn look_at<R: Wait>(
+    rt: &R,
+    library: &mut Library,
+    links: &Links,
+    floor: &Floor,
+    desk: &mut Desk,
+    s: u16,
+)
+    requires table { library.old.ends.seat.table ≡ links.now.leases.now }
+    requires tail { library.old.ends.tail.ring ≡ links.now.commands.now }
+    ensures moves { MovesOn library.old library.new }
+    ensures belongings { belongings library.new.ends ≡ belongings library.old.ends }
+{
+    let place = floor.place(s);
+    if place.keeper(s) != desk.number {
+        place.ask_if_due();
+        hand_over(library, links, floor, desk, s);
+        return;
+    }
+    if desk.lease_of(s) == 0 && library.asking().is_none() && place.is_free() {
+        // Behind the last message that was answered.
+        let next = place.book.lock(rt).next;
+        request(library, links, s, next);
+    }
+}
+
+/// Hands a session to the library that is to have it, and tells that it was let go.
+fn hand_over(library: &mut Library, links: &Links, floor: &Floor, desk: &mut Desk, s: u16)
+    requires table { library.old.ends.seat.table ≡ links.now.leases.now }
+    ensures moves { MovesOn library.old library.new }
+    ensures belongings { belongings library.new.ends ≡ belongings library.old.ends }
+{
+    let place = floor.place(s);
+    let heir = place.keeper(s);
+    if heir == desk.number {
+        return;
+    }
+    let lease = desk.lease_of(s);
+    if lease == 0 {
+        place.let_go();
+        return;
+    }
+    place.hand(lease);
+    hand(library, links, s, heir);
+    desk.set_lease(s, 0);
+    place.let_go();
+}
+
+/// Gives every session back.
+fn give_all_back(library: &mut Library, links: &Links, floor: &Floor, desk: &mut Desk)
+    requires table { library.old.ends.seat.table ≡ links.now.leases.now }
+    ensures belongings { belongings library.new.ends ≡ belongings library.old.ends }
+{
+    'giving: for s in 0..floor.sessions() {
+        let lease = desk.lease_of(s);
+        if lease > 0 {
+            floor.place(s).give_back(lease);
+            give_back(library, links, s);
+            desk.set_lease(s, 0);
+        }
+    }
+}
+
+/// Tells the engine that nothing more comes, again while the ring of commands has no room.
+fn tell_done<R: rt::Clock>(
+    rt: &R,
+    library: &mut Library,
+    links: &Links,
+    floor: &Floor,
+    finished: bool,
+)
+    requires tail { library.old.ends.tail.ring ≡ links.now.commands.now }
+    ensures belongings { belongings library.new.ends ≡ belongings library.old.ends }
+{
+    'telling: for _tries in 0..TELLINGS {
+        if floor.has_stopped() || library.done(links, finished).is_ok() {
+            return;
+        }
+        thread::sleep(rt, Duration::from_micros(NAP));
+    }
+}
+
+impl Desk {
+    /// The lease of a session that this library has, so far as it knows, or 0.
+    fn lease_of(&self, s: u16) -> u32 {
+        match self.leases.get(usize::from(s)) {
+            Some(lease) => *lease,
+            None => 0,
+        }
+    }
+
+    fn set_lease(&mut self, s: u16, lease: u32) {
+        if let Some(slot) = self.leases.get_mut(usize::from(s)) {
+            *slot = lease;
+        }
+    }
+}
