@@ -7,7 +7,12 @@ use gate_io::Gate;
 use std::time::Duration;
 use std::{rt, thread};
 
-/// A gate at which everyone waits for a millisecond.
+/// At which of its passes a library naps, and for how many milliseconds.
+const NAP_AT: u64 = 500;
+
+const NAP: u64 = 400;
+
+/// A gate at which everyone waits for a millisecond, and naps once.
 #[derive(Drop)]
 pub struct SlowGate<R: rt::Clock> {
     rt: R,
@@ -22,8 +27,9 @@ impl<R: rt::Clock> SlowGate<R> {
 impl<R: rt::Clock> Gate for SlowGate<R> {
     ghost open_wide = { λ _. true };
 
-    fn pass(&self, _lib: u32, _turn: u64) -> bool {
-        thread::sleep(&self.rt, Duration::from_millis(1));
+    fn pass(&self, _lib: u32, turn: u64) -> bool {
+        let wait = if turn == NAP_AT { NAP } else { 1 };
+        thread::sleep(&self.rt, Duration::from_millis(wait));
         true
     }
 }

@@ -92,7 +92,7 @@ fn four_libraries_trade(rt: HostRuntime) -> Result<(), Fail> {
     Ok(())
 }
 
-// A library that shows no sign of life loses its session, and a send tells it so.
+// A library that shows no sign of life while it naps loses its session, and a send tells it so.
 #[test]
 fn a_silent_library_loses_its_session(rt: HostRuntime) -> Result<(), Fail> {
     let alloc = rt.alloc();
@@ -104,7 +104,7 @@ fn a_silent_library_loses_its_session(rt: HostRuntime) -> Result<(), Fail> {
         alloc,
         "session GATE BUYER\nlibraries 1\noption timeout 50\nlib 1 request 0 0\nlib 1 answer\n",
     )?;
-    for _ in 0..200u32 {
+    for _ in 0..600u32 {
         script.push_str("lib 1 poll\n")?;
     }
     script.push_str("lib 1 send 0 35=8|37=LATE|\n")?;
