@@ -43,7 +43,7 @@ pub(crate) fn run<R: Threads + Sync, C: Clock + Send, G: Gate + Sync>(
     let waits = seed % 2 == 0;
     let text = script(alloc, &mut draw, waits)?;
     let mut wire = wire(alloc, &mut draw)?;
-    let words = words(alloc, if waits { "20000" } else { "1000000000" })?;
+    let words = words(alloc, if waits { "20000" } else { "3000000" })?;
     let mut source = MemSource::new(Vec::from_slice(alloc, text.as_bytes())?, Vec::new(alloc));
     let mut sink = MemSink::new(alloc, ROOM, Vec::new(alloc))?;
     let (status, _record) = serve(
