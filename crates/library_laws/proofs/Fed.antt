@@ -383,10 +383,10 @@ told_to library asked replied new notice from_one reply tells was =
     })
 
 -- sessions go on behind a pump
-abbrev FedOf : ℕ → LibraryDesk → LibraryDesk → Type 0
+abbrev pub FedOf : ℕ → LibraryDesk → LibraryDesk → Type 0
 FedOf count a b = AreFed a → length a.desk.board.sessions ≡ count → AreFed b × (length b.desk.board.sessions ≡ count)
 
-pumped_to : (library s : ℕ) (count : ℕ) (old new : LibraryDesk) → 1 ≤ library → s < count → PumpsTo library s old new → FedOf count old new
+pub pumped_to : (library s : ℕ) (count : ℕ) (old new : LibraryDesk) → 1 ≤ library → s < count → PumpsTo library s old new → FedOf count old new
 pumped_to library s count old new from_one small is was counted = elim is [
   | inl pumping ↦ (
       let pumps = pumping.1.0 in
@@ -450,7 +450,7 @@ module _ (l : Laws) (lease_told : LinesTellLease) (pushed_last : PushedIsLast) w
       let popped = looked_at library old is.popped looks.before looks.after from_one looks.found looks.looks.pushed looks.ends looks.rest was in
       told_to library is.popped is.replied new is.notice from_one (replies_fed library nr is.s is.from is.popped is.replied is.notice from_one is.replies popped) is.tells popped
 
-  answered_turn : (library : ℕ) (old new : LibraryDesk) (turn : LibTurn) → 1 ≤ library → Answers library old new turn → AreFed old → AreFed new
+  pub answered_turn : (library : ℕ) (old new : LibraryDesk) (turn : LibTurn) → 1 ≤ library → Answers library old new turn → AreFed old → AreFed new
   answered_turn library old new (NoRoom pushed taken) from_one looks was = looked_at library old new looks.before looks.after from_one looks.found looks.looks.pushed looks.ends looks.rest was
   answered_turn library old new NoCommand from_one looks was = looked_at library old new looks.before looks.after from_one looks.found looks.looks.pushed looks.ends looks.rest was
   answered_turn library old new (Ended finished) from_one looks was = looked_at library old new looks.before looks.after from_one looks.found looks.looks.pushed looks.ends looks.rest was

@@ -49,6 +49,7 @@ module _ (first : (library : ℕ) (book : Book) → AreSendsOf library book.entr
       let none : lines_before shape s ≡ [] = ap (λ (ls : List (List Line)). slice_index_or ls s []) before ∙ nothing_at s [] in
       record {
         lines = lines ∙ sym none;
+        based = ap (λ (ls : List Line). length ls) none ∙ sym (ap (λ (ls : List Line). length ls) lines);
         granted = λ some. (let empty = ap (λ (ls : List Line). length ls) none in absurd (omega arith));
         lanes = length-replicate shape.libraries [];
         taken = λ library from_one to_last. record { sends = []; sends_are = first library book; bodies = sym (ap bodies_of (none_there shape.libraries (library - 1) [])) };

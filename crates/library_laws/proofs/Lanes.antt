@@ -98,10 +98,14 @@ all_shown entries w can =
     let is : raises lines w ≡ true = all_three _ _ _ (eq-eqb w.lease (length lines) can.showable.lease) (lt-ltb 0 (owner_in l.ending l.library) can.owned) (le-leb l.sends w.count can.showable.count) in
     ap (λ b. if b then missing_sends lines w else 0) is
 
--- taking items changes no line, and there are as many lanes
+-- taking items changes no line and no base, and there are as many lanes
 takes_lines : (items : List Item) (es : EngineSession) → (after_takes items es).lines ≡ es.lines
 takes_lines [] es = refl
 takes_lines (item ∷ items) es = takes_lines items (after_take es (last_library es) (item ∷ []))
+
+takes_base : (items : List Item) (es : EngineSession) → (after_takes items es).base ≡ es.base
+takes_base [] es = refl
+takes_base (item ∷ items) es = takes_base items (after_take es (last_library es) (item ∷ []))
 
 takes_lanes : (items : List Item) (es : EngineSession) → length (after_takes items es).taken ≡ length es.taken
 takes_lanes [] es = refl
@@ -150,6 +154,7 @@ chosen is outcome xs ys known = ap (λ b. if b then xs else ys) known
 pub lanes_stay : (libraries : ℕ) (before : List Entry) (old new : Book) (es : EngineSession) → KeepsSends old new → LanesAreTaken libraries before old es → LanesAreTaken libraries before new es
 lanes_stay libraries before old new es keeps was = record {
   lines = keeps.lines ∙ was.lines;
+  based = was.based;
   granted = was.granted;
   lanes = was.lanes;
   taken = λ library from_one to_last.
@@ -158,7 +163,7 @@ lanes_stay libraries before old new es keeps was = record {
 }
 
 -- These items are taken of the last lease's library, and sent.
-module _ (libraries : ℕ) (before : List Entry) (at : ℕ) (items : List Item) (old new : Book) (es shown : EngineSession) (same_taken : shown.taken ≡ es.taken) (last : SameLast es.lines shown.lines) (none : length es.lines ≡ 0 → items ≡ [])
+module _ (libraries : ℕ) (before : List Entry) (at : ℕ) (items : List Item) (old new : Book) (es shown : EngineSession) (same_base : shown.base ≡ es.base) (same_taken : shown.taken ≡ es.taken) (last : SameLast es.lines shown.lines) (none : length es.lines ≡ 0 → items ≡ [])
     (was : LanesAreTaken libraries before old es) where
   abbrev last_one : ℕ
   last_one = (last_lease (state_of old.entries).leases).library
@@ -200,6 +205,7 @@ module _ (libraries : ℕ) (before : List Entry) (at : ℕ) (items : List Item) 
       → LanesAreTaken libraries before new (after_takes items shown)
   lanes_gathered lines sent = record {
     lines = lines ∙ sym (takes_lines items shown);
+    based = takes_base items shown ∙ same_base ∙ was.based;
     granted = λ some.
         let long = ap (λ (ls : List Line). length ls) (takes_lines items shown) in
         let count = last.count in

@@ -13,3 +13,5 @@ mod Lanes
 mod Taken
 mod First
 mod Settled
+mod Holdings
+mod Within

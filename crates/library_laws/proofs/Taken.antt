@@ -121,7 +121,7 @@ module _ (before : ℕ → List Entry) where
       (λ small.
       let own = was.each s small in
       subst (λ (b : Board). LanesAreTaken (libraries_of old) (before s) (book_at b s) (after_publish (engine_at old.seat s) count)) (sym board)
-      (record { lines = own.lines; granted = own.granted; lanes = own.lanes; taken = own.taken }))
+      (record { lines = own.lines; based = own.based; granted = own.granted; lanes = own.lanes; taken = own.taken }))
       was
 
   -- the engine and a library meet
@@ -145,7 +145,7 @@ module _ (before : ℕ → List Entry) where
             subst (λ (t : TableRef). LanesAreTaken t.shape.libraries (before s) (book_at new.board s) (engine_at new.seat s)) (sym table)
             (subst (λ (e : EngineSession). LanesAreTaken (libraries_of old) (before s) (book_at new.board s) e) (sym (is.engine_session s (subst (λ n. s < n) was.seated here)))
             (subst (λ (b : Board). LanesAreTaken (libraries_of old) (before s) (book_at b s) (engine_session_after_meeting (engine_at old.seat s) (library_at library_old s))) (sym board)
-            (record { lines = own.lines; granted = own.granted; lanes = own.lanes; taken = own.taken })));
+            (record { lines = own.lines; based = own.based; granted = own.granted; lanes = own.lanes; taken = own.taken })));
       }
 
   -- The board is ready, and so it is.
@@ -175,7 +175,7 @@ module _ (before : ℕ → List Entry) where
         let shown = is.reaches.1.1.1.0 in
         let count : length (bodies_of is.items) ≡ shown_sends book.entries is.word = shown.bodies_are ∙ ap (λ (d : Desk). shown_sends d.book.entries is.word) rests.desk in
         let lines : lines_of (book_at new.board s).entries ≡ raised es.lines is.word = ap (λ (d : Desk). lines_of d.book.entries) is.desk ∙ gathered_lines book.entries es.lines is.word until was.lines in
-        lanes_gathered (libraries_of old) (before s) at is.items book (book_at new.board s) es (after_look es is.word) refl (last_raised is.word es.lines) (nothing_found es.lines is.word is.items is.finds.stands is.finds.count) was lines
+        lanes_gathered (libraries_of old) (before s) at is.items book (book_at new.board s) es (after_look es is.word) refl refl (last_raised is.word es.lines) (nothing_found es.lines is.word is.items is.finds.stands is.finds.count) was lines
         (λ library sends are. subst (λ (d : Desk). AreSendsOf library (before s) (sends ++ new_sends library book at (bodies_of is.items)) d.book) (sym is.desk)
         (l.word library (before s) sends at until is.word (bodies_of is.items) (desk_at old.board s) (ready.books s small).is_book count are))
 
@@ -202,7 +202,7 @@ module _ (before : ℕ → List Entry) where
         let lines : lines_of (book_at new.board s).entries ≡ taken_back is.word.standing (raised es.lines is.word) =
         ap (λ (d : Desk). lines_of d.book.entries) is.desk ∙ timed_out_lines is.word.standing (entries_after_hold until (entries_after_word book.entries is.word))
         ∙ ap (λ (ls : List Line). taken_back is.word.standing ls) (gathered_lines book.entries es.lines is.word until was.lines) in
-        lanes_gathered (libraries_of old) (before s) at is.items book (book_at new.board s) es (after_revoke es is.word) refl
+        lanes_gathered (libraries_of old) (before s) at is.items book (book_at new.board s) es (after_revoke es is.word) refl refl
         (last_further es.lines (raised es.lines is.word) (taken_back is.word.standing (raised es.lines is.word)) (last_raised is.word es.lines) (last_taken_back is.word.standing (raised es.lines is.word)))
         (nothing_found es.lines is.word is.items is.finds.stands is.finds.count) was lines
         (λ library sends are. subst (λ (d : Desk). AreSendsOf library (before s) (sends ++ new_sends library book at (bodies_of is.items)) d.book) (sym is.desk)
@@ -251,6 +251,7 @@ module _ (before : ℕ → List Entry) where
         let own = was.each s small in
         record {
           lines = lines ∙ ap (λ (ls : List Line). ls ++ granted_line library ∷ []) own.lines;
+          based = own.based;
           granted = λ some. subst (λ (last : Line). 1 ≤ last.library) (sym (l.last no_line es.lines (granted_line library))) from_one;
           lanes = own.lanes;
           taken = λ other other_from_one to_last.

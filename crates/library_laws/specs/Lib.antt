@@ -1,3 +1,4 @@
 pub mod Feeds
 pub mod Replies
 pub mod Sends
+pub mod Spans

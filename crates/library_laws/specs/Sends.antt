@@ -22,10 +22,11 @@ pub record AreLogged (library : ℕ) (before : List Entry) (book : Book) (items 
   pub sends_are : AreSendsOf library before sends book
   pub bodies : logged_bodies sends ≡ bodies_of items
 
--- What the engine's seat has of a session. It saw the leases that the journal tells, of which the last is a library's; and for each library of the table
--- there is a lane, of which the log has the items that were taken.
+-- What the engine's seat has of a session. It saw the leases that the journal tells, of which the last is a library's; those before its table are the leases of
+-- the entries before; and for each library of the table there is a lane, of which the log has the items that were taken.
 pub record LanesAreTaken (libraries : ℕ) (before : List Entry) (book : Book) (es : EngineSession) : Type 0 where
   pub lines : lines_of book.entries ≡ es.lines
+  pub based : es.base ≡ length (lines_of before)
   pub granted : 0 < length es.lines → 1 ≤ last_library es
   pub lanes : length es.taken ≡ libraries
   pub taken : (library : ℕ) → 1 ≤ library → library ≤ libraries → AreLogged library before book (taken_of es library)

@@ -25,13 +25,17 @@ ghost use Rattle.library_desk.specs.declared.shared.Shared.{Shared};
 ghost use Rattle.library_laws.specs.Feeds.{AreFed};
 ghost use Rattle.library_laws.specs.Replies.{AreAnswered, KeepsReplies, is_unasked};
 ghost use Rattle.library_laws.specs.Sends.{AreLogged, AreTaken};
+ghost use Rattle.library_laws.specs.Spans.{AllLieWithin};
 ghost use Rattle.ring_links.specs.Ends.{HeadView, TailView};
 ghost use Rattle.session_book.specs.Records.{Pending};
 ghost use Rattle.switchboard.specs.Board.{Board, book_at};
 ghost use Rattle.switchboard.specs.Happenings.{Happening, Happens};
 ghost use Rattle.switchboard.specs.Ready.{IsReady, entries_of};
 
-use lease_core::laws::{last_lines_are_last, lines_go_on, lines_tell_the_owner, words_raise_lines};
+use lease_core::laws::{
+    entries_decide_one_by_one, holdings_adjoin, last_lines_are_last, lines_go_on,
+    lines_tell_the_owner, words_raise_lines,
+};
 use lease_desk::laws::{boards_stay_in_step, others_stay};
 use lease_words::settled_lanes_are_taken;
 use session_book::laws::{leases_stay, sends_are_told};
@@ -87,6 +91,40 @@ pub fn messages_are_in_order()
     boards_go_on();
     boards_stay_in_step();
     boards_stay_ready();
+    last_lines_are_last();
+    lines_go_on();
+    lines_tell_the_owner();
+    others_stay();
+    words_raise_lines();
+}
+
+/// Each message of a lease that is pushed to a library lies below the end of what the library holds of the session by
+/// that lease, where the session's journal is lawful: a lease's messages are pushed while it runs, up to the
+/// log's length then, and as it ends what it held ends at that length or behind it. So it is where a run
+/// begins, and behind each turn.
+pub fn messages_lie_within_holdings()
+    // Nothing was pushed yet.
+    ensures first { (config : Config) (shared : Shared) (d : LibraryDesk) → StartsEngine config shared d.ends.items → AllLieWithin d }
+    // A library is served. The board is ready, as it stays whatever happens, and what was pushed is in order.
+    ensures serves { (before : ℕ → List Entry) (library at until : ℕ) (old new : LibraryDesk) (turn : LibTurn) → 1 ≤ library → Serves library at until old new turn → IsReady before old.desk.board → AreFed old
+        → AllLieWithin old → AllLieWithin new }
+    // The first half of a turn, the whole, and records that are handed out.
+    ensures takes { (before : ℕ → List Entry) (reading : ℕ) (old new : AtWire) (taken : Taken) → TakesTurn reading old new taken → IsReady before old.engine.sessions.desk.board → AreFed old.engine.sessions
+        → AllLieWithin old.engine.sessions → AllLieWithin new.engine.sessions }
+    ensures turn { (before : ℕ → List Entry) (reading : ℕ) (old new : AtWire) (turn : Turn) → MakesTurn reading old new turn → IsReady before old.engine.sessions.desk.board → AreFed old.engine.sessions
+        → AllLieWithin old.engine.sessions → AllLieWithin new.engine.sessions }
+    ensures hands_out { (old new : Engine) (records : List Record) → HandsOut old new records → AllLieWithin old.sessions → AllLieWithin new.sessions }
+    // The engine and a library meet, and the last gathering of a run.
+    ensures meets { (library : ℕ) (old new : LibraryDesk) (tail_old tail_new : TailView Command) (head_old head_new : HeadView Notice) → 1 ≤ library
+        → RingsMeet library old new tail_old tail_new head_old head_new → new ≡ record old { desk = record (old.desk) { seat = new.desk.seat }; ends = new.ends } → AllLieWithin old → AllLieWithin new }
+    ensures gathers { (seats : List LibraryView) (at until : ℕ) (old : LibraryDesk) (gathered : LeaseDesk) → GathersAll at until (after_settling seats old.desk) gathered
+        → AllLieWithin old → AllLieWithin (record old { desk = gathered }) }
+{
+    boards_go_on();
+    boards_stay_in_step();
+    boards_stay_ready();
+    entries_decide_one_by_one();
+    holdings_adjoin();
     last_lines_are_last();
     lines_go_on();
     lines_tell_the_owner();
