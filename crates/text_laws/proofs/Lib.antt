@@ -5,3 +5,7 @@ mod Writing
 mod Taking
 mod Turns
 mod Told
+mod Said
+mod Dialled
+mod Heard
+mod Walk

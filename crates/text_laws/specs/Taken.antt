@@ -1,5 +1,5 @@
 -- What connections took of their outbound texts, and what may keep one from taking its text whole.
-use Rattle.std.specs.Prelude.{◌≡◌, ◌≢◌, ℕ, ◌+◌, ◌^◌, ◌<◌, ◌≤◌, ◌⊎◌, false, List, [], ◌++◌, length, take, Option, None, Some}
+use Rattle.std.specs.Prelude.{◌≡◌, ◌≢◌, ℕ, ◌+◌, ◌^◌, ◌<◌, ◌≤◌, ◌⊎◌, false, true, List, [], ◌++◌, length, take, Option, None, Some}
 use Rattle.std.specs.List.{Contains}
 use Rattle.connection_core.specs.Connection.{ConnectionState}
 use Rattle.connection_core.specs.Items.{text_of}
@@ -100,6 +100,16 @@ pub record BeginsFirstOfText (before : ℕ → List Entry) (board : Board) (s k 
   pub told : HasTextOf before board s k
   pub rest : List ℕ
   pub begins : text_of (names_at board s) (book_at board s).outbound (take 1 (spell_items (book_at board s).outbound told.spell)) ≡ written_text (connection_at board k).out.outgoing ++ rest
+
+-- By this text that the journal of session s tells: where the Logon of the connection at place k wasn't answered, what is written begins the text of its first
+-- item, and where it has ended it is that, or its writing was cut short; and where the Logon was answered and it has ended, it is the whole text, or was cut short.
+pub record TookAsAnswered (before : ℕ → List Entry) (board : Board) (links : ℕ → Link) (s k : ℕ) (told : HasTextOf before board s k) : Type 0 where
+  pub begins : (connection_at board k).answered ≡ false
+      → (rest : List ℕ) × (text_of (names_at board s) (book_at board s).outbound (take 1 (spell_items (book_at board s).outbound told.spell)) ≡ written_text (connection_at board k).out.outgoing ++ rest)
+  pub first : (connection_at board k).answered ≡ false → (connection_at board k).cause ≢ None
+      → (written_text (connection_at board k).out.outgoing ≡ text_of (names_at board s) (book_at board s).outbound (take 1 (spell_items (book_at board s).outbound told.spell))) ⊎ IsCutShort (links (connection_at board k).number) (connection_at board k)
+  pub whole : (connection_at board k).answered ≡ true → (connection_at board k).cause ≢ None
+      → (written_text (connection_at board k).out.outgoing ≡ outbound_text (names_at board s) (book_at board s).outbound told.spell) ⊎ IsCutShort (links (connection_at board k).number) (connection_at board k)
 
 -- The connection took its text, in the words of the journal. Where it names no session there is none.
 abbrev pub TookTextOf : (ℕ → List Entry) → Board → ℕ → Option ℕ → Type 0

@@ -15,11 +15,13 @@ ghost use Rattle.lease_desk.specs.declared.desk.LeaseDesk.{LeaseDesk};
 ghost use Rattle.lease_words.specs.Views.{LibraryView};
 ghost use Rattle.library_desk.specs.declared.shared.Shared.{Shared};
 ghost use Rattle.switchboard.specs.Board.{Board, connection_at};
-ghost use Rattle.switchboard.specs.Ready.{IsFirst, IsReady};
-ghost use Rattle.text_laws.specs.Taken.{BeginsFirstOfText, FirstsComeAlone, IsCutShort, IsWrittenIn, RestsIn, TookTextOf, TookTheirTexts, TookTheirTextsSoFar};
+ghost use Rattle.switchboard.specs.Ready.{HasTextOf, IsFirst, IsReady};
+ghost use Rattle.text_laws.specs.Answered.{DialledAreSo};
+ghost use Rattle.text_laws.specs.Taken.{BeginsFirstOfText, FirstsComeAlone, IsCutShort, IsWrittenIn, RestsIn, TookAsAnswered, TookTextOf, TookTheirTexts, TookTheirTextsSoFar};
 ghost use Rattle.wire_desk.specs.Places.{open_places};
 
 use library_desk::laws::serving_happens;
+use session_core::laws::sameness_laws;
 use switchboard::laws::{boards_go_on, boards_stay_ready, ready_boards_allow};
 
 /// Each turn writes to every connection that isn't closed, also to one that ended in that turn, and it takes
@@ -67,9 +69,37 @@ pub fn texts_are_taken()
     // What is written on one whose Logon wasn't answered begins the text of the first item, also where it was cut short.
     ensures unanswered { (before : ℕ → List Entry) (board : Board) (links : ℕ → Link) → IsReady before board → TookTheirTexts board links → (s k : ℕ) → k < length board.connections
         → (connection_at board k).session ≡ Some s → (connection_at board k).answered ≡ false → BeginsFirstOfText before board s k }
+    // Both by each text that the journal tells.
+    ensures answers { (before : ℕ → List Entry) (board : Board) (links : ℕ → Link) → IsReady before board → TookTheirTexts board links → (s k : ℕ) → k < length board.connections
+        → (told : HasTextOf before board s k) → TookAsAnswered before board links s k told }
 {
     boards_go_on();
     boards_stay_ready();
     ready_boards_allow();
+    serving_happens();
+}
+
+/// Of a dialled connection the Logon counts as answered just where the first message that was handled of it answers
+/// it: it is a Logon of the counterparty with this HeartBtInt and with a number, also a low one. And the session that
+/// it names is one that dials. So it is where an engine starts, and behind each turn.
+pub fn logons_are_answered()
+    // There is no connection yet.
+    ensures first { (before : ℕ → List Entry) (board : Board) → IsFirst before board → DialledAreSo board }
+    // The first half of a turn, the second, and the whole.
+    ensures takes { (before : ℕ → List Entry) (reading : ℕ) (old new : AtWire) (taken : Taken) → TakesTurn reading old new taken → IsReady before old.engine.sessions.desk.board
+        → DialledAreSo old.engine.sessions.desk.board → DialledAreSo new.engine.sessions.desk.board }
+    ensures gives { (before : ℕ → List Entry) (old new : AtWire) (taken : Taken) (turn : Turn) → GivesTurn old new taken turn → IsReady before old.engine.sessions.desk.board
+        → DialledAreSo old.engine.sessions.desk.board → DialledAreSo new.engine.sessions.desk.board }
+    ensures turn { (before : ℕ → List Entry) (reading : ℕ) (old new : AtWire) (turn : Turn) → MakesTurn reading old new turn → IsReady before old.engine.sessions.desk.board
+        → DialledAreSo old.engine.sessions.desk.board → DialledAreSo new.engine.sessions.desk.board }
+    // Records are handed out, and the last gathering of a run.
+    ensures hands_out { (before : ℕ → List Entry) (old new : Engine) (records : List Record) → HandsOut old new records → IsReady before old.sessions.desk.board
+        → DialledAreSo old.sessions.desk.board → DialledAreSo new.sessions.desk.board }
+    ensures gathers { (before : ℕ → List Entry) (seats : List LibraryView) (at until : ℕ) (old gathered : LeaseDesk) → GathersAll at until (after_settling seats old) gathered → IsReady before old.board
+        → DialledAreSo old.board → DialledAreSo gathered.board }
+{
+    boards_go_on();
+    boards_stay_ready();
+    sameness_laws();
     serving_happens();
 }

@@ -2,7 +2,7 @@ use Rattle.std.proofs.Common.{◌≡◌, inl, inr, ℕ, List, length, refl, ap, 
 use Rattle.engine_end.specs.Finishing.{after_settling}
 use Rattle.lease_core.specs.declared.entry.Entry.{Entry}
 use Rattle.text_laws.proofs.Standing.{Laws}
-use Rattle.text_laws.proofs.Told.{begins_first, took_text}
+use Rattle.text_laws.proofs.Told.{begins_first, took_as_answered, took_text}
 use Rattle.text_laws.proofs.Turns.{gathered_took, half_given, half_taken, links_go_on, records_handed_out, turn_made}
 use Rattle.text_laws.proofs.laws.texts_are_taken.Goals as goal
 
@@ -40,3 +40,6 @@ returns-clause-text c = λ before board links ready took k within ended. elim (t
 
 pub returns-clause-unanswered : goal.returns-clause-unanswered
 returns-clause-unanswered c = λ before board links ready took s k within names unanswered. begins_first before board s k ready within names (took.firsts k within unanswered)
+
+pub returns-clause-answers : goal.returns-clause-answers
+returns-clause-answers c = λ before board links ready took. took_as_answered before board links took
