@@ -10,12 +10,13 @@ use Rattle.std.specs.Prelude.{nat_le, ◌==◌, if◌then◌else◌, slice_get}
 use Rattle.engine_loop.specs.declared.engine.Engine.{Engine}
 use Rattle.gate_io.specs.MemWire.{link_at}
 use Rattle.gate_io.specs.Wire.{Link}
-use Rattle.lease_core.specs.Lines.{lines_of}
+use Rattle.lease_core.specs.Lines.{IsShown, lines_of}
 use Rattle.lease_core.specs.declared.entry.Entry.{Entry}
+use Rattle.lease_core.specs.declared.lease.Line.{Line}
 use Rattle.lease_core.specs.declared.messages.Notice.{Notice}
 use Rattle.lease_core.specs.declared.messages.Notice.TheVariants as notices
 use Rattle.lease_desk.specs.Desk.{bodies_of}
-use Rattle.lease_words.specs.Leases.{held_lease}
+use Rattle.lease_words.specs.Leases.{Each, OthersRest, Stands, held_lease}
 use Rattle.lease_words.specs.Views.{LibraryView, library_at}
 use Rattle.lease_words.specs.declared.item.Item.{Item}
 use Rattle.lease_words.specs.declared.view.LibrarySession.{LibrarySession}
@@ -30,7 +31,9 @@ use Rattle.library_desk.specs.declared.ends.EngineEnds.{EngineEnds}
 use Rattle.library_laws.specs.Feeds.{IsFed, IsLogged}
 use Rattle.library_laws.specs.Replies.{Ask, IsAnswered, answered_by, asked_by, replies_told, reply_of, stray_reply}
 use Rattle.library_laws.specs.Sends.{AreLogged}
+use Rattle.library_laws.specs.Spans.{LiesWithin}
 use Rattle.run_laws.specs.Accounted.{AreNumbered, LeasesStand, LeavesAccounted, RunLeavesAccounted}
+use Rattle.run_laws.specs.Deeds.{deeds_in_lines, deeds_kept, words_kept}
 use Rattle.run_laws.specs.Lives.{AreKept, HasLived, HaveLived, IsKeptAs, IsLifeAt, IsReportedAs, Life, life_of}
 use Rattle.script_run.specs.declared.callers.Caller.{Caller}
 use Rattle.script_run.specs.declared.run.Run.{Run}
@@ -38,6 +41,7 @@ use Rattle.run_laws.specs.Records.{AllAreReplied}
 use Rattle.run_laws.specs.Reports.{AreFromGrant, ArePostsLogged, AreRepliesTold, GivesBack, HandsOn, IsBorneOut, IsRepliedAtEnd, IsReplyTold, IsReported, IsTold, asks_kept, positions_kept, posts_kept}
 use Rattle.run_laws.specs.Sides.{Begins}
 use Rattle.run_laws.proofs.Asked.{calls_ask}
+use Rattle.run_laws.proofs.Deeds.{all_shown, deeds_told, lines_tell}
 use Rattle.run_laws.proofs.Given.{DidBy, OnGiven, calls_gave, gave_so}
 use Rattle.run_laws.proofs.Grants.{IsBeside, first_grant, none_given}
 use Rattle.run_laws.proofs.Lived.{none_there, requests_numbered}
@@ -137,26 +141,41 @@ module _ (polls_pop : PollsPop) (closed : RepliesCloseRequests) (deeds_are_answe
     deeds_are s = sym (ap (λ (now : Known). deeds_by (session_at now s).leases) lived.known ∙ (deeds_are_answered s k lived.made lived.lawful
         ∙ ap (λ (ls : LibrarySession). deeds_by ls.leases ++ deeds_of s k lived.made) (lived.unused.sessions s)))
 
-    given_so : (board : Board) → ((s : ℕ) → s < length board.sessions → LeasesStand (lines_of (book_at board s).entries) life.number (library_at life.library.ends.seat s).leases)
-        → (call : Kept) → OnGiven (DidBy k lived.made) call → GivesBack board life.number call
-    given_so board stand (calls.Release s (Ok released)) did = λ small.
-        let here = stand s small in
-        gave_so here.base (lines_of (book_at board s).entries) life.number (library_at life.library.ends.seat s).leases here.each released.lease released.count 0
-        (subst (λ deeds. Contains deeds (did_give released.lease released.count 0)) (deeds_are s) did)
-    given_so board stand (calls.Hand s heir (Ok released)) did = λ small.
-        let here = stand s small in
-        gave_so here.base (lines_of (book_at board s).entries) life.number (library_at life.library.ends.seat s).leases here.each released.lease released.count heir
-        (subst (λ deeds. Contains deeds (did_give released.lease released.count heir)) (deeds_are s) did)
-    given_so board stand (calls.Release s (Err why)) did = tt
-    given_so board stand (calls.Hand s heir (Err why)) did = tt
-    given_so board stand (calls.Poll event) did = tt
-    given_so board stand (calls.Send s body answer) did = tt
-    given_so board stand (calls.Request s from answer) did = tt
-    given_so board stand calls.Beat did = tt
+    -- and what the kept ones say
+    kept_deeds_are : (s : ℕ) → deeds_kept s life.calls ≡ deeds_by (library_at life.library.ends.seat s).leases
+    kept_deeds_are s = deeds_told s k lived.made life.calls lived.kept ∙ deeds_are s
 
-    all_given : (board : Board) → ((s : ℕ) → s < length board.sessions → LeasesStand (lines_of (book_at board s).entries) life.number (library_at life.library.ends.seat s).leases)
-        → All (GivesBack board life.number) life.calls
-    all_given board stand i d within = given_so board stand (get_or life.calls i d) (calls_gave k lived.made life.calls lived.kept i d within)
+    -- all that it knows stands in the journals
+    module _ (before : ℕ → List Entry) (board : Board)
+        (stand : (s : ℕ) → s < length board.sessions → LeasesStand (length (lines_of (before s))) (lines_of (book_at board s).entries) life.number (library_at life.library.ends.seat s)) where
+      given_so : (call : Kept) → OnGiven (DidBy k lived.made) call → GivesBack board life.number call
+      given_so (calls.Release s (Ok released)) did = λ small.
+          gave_so (length (lines_of (before s))) (lines_of (book_at board s).entries) life.number (library_at life.library.ends.seat s).leases (stand s small).each released.lease released.count 0
+          (subst (λ deeds. Contains deeds (did_give released.lease released.count 0)) (deeds_are s) did)
+      given_so (calls.Hand s heir (Ok released)) did = λ small.
+          gave_so (length (lines_of (before s))) (lines_of (book_at board s).entries) life.number (library_at life.library.ends.seat s).leases (stand s small).each released.lease released.count heir
+          (subst (λ deeds. Contains deeds (did_give released.lease released.count heir)) (deeds_are s) did)
+      given_so (calls.Release s (Err why)) did = tt
+      given_so (calls.Hand s heir (Err why)) did = tt
+      given_so (calls.Poll event) did = tt
+      given_so (calls.Send s body answer) did = tt
+      given_so (calls.Request s from answer) did = tt
+      given_so calls.Beat did = tt
+
+      all_given : All (GivesBack board life.number) life.calls
+      all_given i d within = given_so (get_or life.calls i d) (calls_gave k lived.made life.calls lived.kept i d within)
+
+      all_done : (s : ℕ) → s < length board.sessions → lines_of (before s) ≡ [] → deeds_in_lines life.number (lines_of (book_at board s).entries) ≡ deeds_kept s life.calls
+      all_done s small none =
+          let lines = lines_of (book_at board s).entries in
+          let leases = (library_at life.library.ends.seat s).leases in
+          let here = stand s small in
+          let base : length (lines_of (before s)) ≡ 0 = ap (λ (ls : List Line). length ls) none in
+          lines_tell life.number lines leases (lived.rising s) (subst (λ n. Each (Stands n lines life.number) leases) base here.each) (subst (λ n. OthersRest n lines life.number leases) base here.others)
+          ∙ sym (kept_deeds_are s)
+
+      all_seen : (s : ℕ) → s < length board.sessions → All (IsShown (lines_of (book_at board s).entries)) (words_kept s life.calls)
+      all_seen s small = all_shown (lines_of (book_at board s).entries) (library_at life.library.ends.seat s) (words_kept s life.calls) (stand s small).words (lived.words s)
 
     handed_on : (P : Notice → Type 0) → All P life.library.ends.head.popped → All (HandsOn P) life.calls
     handed_on P all = calls_given P k lived.made life.calls lived.kept (subst (All P) (sym popped_is) all)
@@ -202,6 +221,8 @@ lived_weaker requests life was = record {
   lawful = was.lawful;
   known = was.known;
   kept = kept_weaker (new_library was.first requests) was.made life.calls was.kept;
+  rising = was.rising;
+  words = was.words;
 }
 
 -- what the laws of libraries say
@@ -247,6 +268,11 @@ module _ (laws : ApiLaws) (before : ℕ → List Entry) (start : ℕ → State) 
       (of_begun (IsTold board strays library) popped one.served.popped.rest side.tail.pushed one.served.popped.is
       (all_told before board strays library side answered fed.logged))
 
+  popped_within : All (LiesWithin board life.number) popped
+  popped_within =
+      subst (λ n. All (LiesWithin board n) popped) (sym one.number)
+      (of_begun (LiesWithin board library) popped one.served.popped.rest side.tail.pushed one.served.popped.is (leaves.accounted.within library side (omega arith) at_side))
+
   reads_are : (s lease : ℕ) → 0 < lease → s < reading_count → s < length board.sessions
       → (positions_kept s lease life.calls ≡ []) ⊎ AreFromGrant (replies_told life.number s (book_at board s).entries) s lease (positions_kept s lease life.calls)
   reads_are s lease some small here =
@@ -268,6 +294,11 @@ module _ (laws : ApiLaws) (before : ℕ → List Entry) (start : ℕ → State) 
     as_reported : (F : ℕ → List Kept → Type 0) → F life.number life.calls → F report.number report.calls
     as_reported F is = subst (λ n. F n report.calls) (sym number_is) (subst (F life.number) (sym calls_are) is)
 
+    -- all that it knew stands
+    stand : (s : ℕ) → s < length board.sessions → LeasesStand (length (lines_of (before s))) (lines_of (book_at board s).entries) life.number (library_at life.library.ends.seat s)
+    stand s small =
+        subst (λ n. LeasesStand (length (lines_of (before s))) (lines_of (book_at board s).entries) n (library_at life.library.ends.seat s)) (one.seat ∙ sym one.number) (leaves.leases s life.library.ends.seat small has)
+
     pub life_borne_out : IsBorneOut before board strays report
     life_borne_out =
         let seat : life.library.ends.seat.knows.number ≡ life.number = one.seat ∙ sym one.number in
@@ -279,9 +310,14 @@ module _ (laws : ApiLaws) (before : ℕ → List Entry) (start : ℕ → State) 
               (reads_are s lease some small here);
           told = as_reported (λ number calls. All (HandsOn (IsTold board strays number)) calls)
               (handed_on laws.polls_pop laws.closed laws.deeds_are_answered laws.posts_are_sent laws.no_gap laws.beginnings requests life one.lived (IsTold board strays life.number) popped_told);
+          within = as_reported (λ number calls. All (HandsOn (LiesWithin board number)) calls)
+              (handed_on laws.polls_pop laws.closed laws.deeds_are_answered laws.posts_are_sent laws.no_gap laws.beginnings requests life one.lived (LiesWithin board life.number) popped_within);
           given_back = as_reported (λ number calls. All (GivesBack board number) calls)
-              (all_given laws.polls_pop laws.closed laws.deeds_are_answered laws.posts_are_sent laws.no_gap laws.beginnings requests life one.lived board
-              (λ s small. subst (λ n. LeasesStand (lines_of (book_at board s).entries) n (library_at life.library.ends.seat s).leases) seat (leaves.leases s life.library.ends.seat small has)));
+              (all_given laws.polls_pop laws.closed laws.deeds_are_answered laws.posts_are_sent laws.no_gap laws.beginnings requests life one.lived before board stand);
+          deeds = as_reported (λ number calls. (s : ℕ) → s < length board.sessions → lines_of (before s) ≡ [] → deeds_in_lines number (lines_of (book_at board s).entries) ≡ deeds_kept s calls)
+              (all_done laws.polls_pop laws.closed laws.deeds_are_answered laws.posts_are_sent laws.no_gap laws.beginnings requests life one.lived before board stand);
+          words = as_reported (λ number calls. (s : ℕ) → s < length board.sessions → All (IsShown (lines_of (book_at board s).entries)) (words_kept s calls))
+              (all_seen laws.polls_pop laws.closed laws.deeds_are_answered laws.posts_are_sent laws.no_gap laws.beginnings requests life one.lived before board stand);
         }
 
   pub life_replied : IsRepliedAtEnd before board life

@@ -1,20 +1,23 @@
--- What a kept call is of a library's calls, and that its seat keeps its number and its sessions.
-use Rattle.std.proofs.Common.{◌≡◌, inl, inr, ℕ, List, [], ◌∷◌, true, false, refl, sym, ap, subst, Bool, Option, None, Some, Result, Ok, Err, ◌∙◌}
+-- What a kept call is of a library's calls; that its seat keeps its number and its sessions; that its leases rise; and that it knows the words that it saw.
+use Rattle.std.proofs.Common.{◌≡◌, ◌≢◌, ◌<◌, inl, inr, ℕ, List, [], ◌∷◌, true, false, refl, sym, ap, subst, Bool, Option, None, Some, Result, Ok, Err, ◌∙◌, arith, length}
+use Rattle.std.proofs.lemmas.Bool.{cases_eq, eq-eqb, ne_eqb}
 use Rattle.std.proofs.lemmas.List.{length-set}
-use Rattle.std.specs.Prelude.{nat_lt, nat_le, if◌then◌else◌, slice_set}
+use Rattle.std.proofs.lemmas.List.Elements.{All-cons}
+use Rattle.std.specs.Prelude.{◌↔◌, ◌==◌, nat_lt, nat_le, if◌then◌else◌, slice_set}
 use Rattle.lease_core.specs.declared.messages.Notice.{Notice}
 use Rattle.lease_core.specs.declared.messages.Notice.TheVariants as notices
-use Rattle.lease_words.specs.Sees.{after_arrival, after_see}
-use Rattle.lease_words.specs.Views.{LibraryView, library_at}
+use Rattle.lease_core.specs.declared.word.Word.{Word}
+use Rattle.lease_words.specs.Sees.{after_arrival, after_loss, after_see, after_taken_load}
+use Rattle.lease_words.specs.Views.{LibraryView, library_at, with_library_at}
 use Rattle.lease_words.specs.declared.item.Sent.{Sent}
 use Rattle.lease_words.specs.declared.view.LibrarySession.{LibrarySession}
 use Rattle.library_api.specs.Calls.{Call, IsLawful, after_call, asks, beats, gives_back, hand_refused, polls, release_refused, send_refused, sends}
 use Rattle.library_api.specs.Ends.{seat_after_beat, with_session}
-use Rattle.library_api.specs.Known.{Known, after_waiting, holds, with_seat}
-use Rattle.library_api.specs.Polls.{Found, HasHold, OnHolding, Polled, after_grant, after_message, after_notice, after_poll, after_pop, after_published, after_taking_up, polled, saw_published, saw_word, shows, taken_up, with_none_kept, with_request_closed}
-use Rattle.library_api.specs.Releases.{after_giving_back, after_hand_refused, after_release_refused}
+use Rattle.library_api.specs.Known.{Known, after_waiting, held, holds, with_seat}
+use Rattle.library_api.specs.Polls.{Found, HasHold, OnHolding, Polled, after_grant, after_message, after_notice, after_poll, after_pop, after_published, after_taking_up, polled, saw_published, saw_word, session_of, shows, taken_up, with_none_kept, with_request_closed}
+use Rattle.library_api.specs.Releases.{IsHandNotHeld, IsReleaseNotHeld, after_giving_back, after_hand_refused, after_release_refused}
 use Rattle.library_api.specs.Requests.{after_asking, after_request}
-use Rattle.library_api.specs.Sends.{after_refusing, after_send_refused, after_sent, items_since, taken_seen}
+use Rattle.library_api.specs.Sends.{SendCause, after_refusing, after_send_refused, after_sent, items_since, taken_seen}
 use Rattle.library_api.specs.declared.event.Event.{Event}
 use Rattle.library_api.specs.declared.reading.Message.{Message}
 use Rattle.library_api.specs.declared.refusal.AskError.{AskError}
@@ -27,7 +30,9 @@ use Rattle.library_api.specs.declared.refusal.Released.{Released}
 use Rattle.library_api.specs.declared.refusal.SendRefusal.{SendRefusal}
 use Rattle.library_api.specs.declared.refusal.SendRefusal.TheVariants as sending
 use Rattle.library_api.specs.declared.waited.WaitKind.TheVariants.{Free}
+use Rattle.run_laws.specs.Deeds.{IsKnownWord, lost_handing, lost_polling, lost_releasing, lost_sending, word_kept}
 use Rattle.run_laws.specs.Lives.{IsKeptAs, SeatStays}
+use Rattle.run_laws.proofs.Seats.{AreKnown, SeatKeeps, asked_keeps, event_known, given_keeps, held_there, last_known, loaded_keeps, lost_keeps, lost_known, lost_sending_keeps, none_known, one_keeps, polled_keeps, seat_itself, sent_keeps}
 use Rattle.run_report.specs.declared.calls.Call.{Call as Kept}
 use Rattle.run_report.specs.declared.calls.Call.TheVariants as calls
 use Rattle.library_calls.specs.Calls.{Hands, MakesCall, Polls, Releases, Requests, SendsTo}
@@ -112,6 +117,24 @@ hand_refused_stays k s handing.NotHeld = record { number = refl; sessions = refl
 hand_refused_stays k s (handing.BadHeir heir) = record { number = refl; sessions = refl }
 hand_refused_stays k s (handing.Lost seen) = record { number = refl; sessions = length-set k.ends.seat.knows.sessions s _ }
 
+-- a refusal, and the word that it has
+refused_keeps : (k : Known) (s taken : ℕ) (why : SendRefusal) → SeatKeeps k.ends.seat (after_refusing k s taken why).ends.seat
+refused_keeps k s taken sending.NotHeld = seat_itself k.ends.seat
+refused_keeps k s taken (sending.TooLong size) = seat_itself k.ends.seat
+refused_keeps k s taken (sending.BadBody at) = seat_itself k.ends.seat
+refused_keeps k s taken (sending.LaneFull committed found) = one_keeps k.ends.seat s _ (loaded_keeps (library_at k.ends.seat s) taken)
+refused_keeps k s taken (sending.SendsSpent count) = one_keeps k.ends.seat s _ (loaded_keeps (library_at k.ends.seat s) taken)
+refused_keeps k s taken (sending.Lost seen) = one_keeps k.ends.seat s _ (lost_sending_keeps (library_at k.ends.seat s) taken seen)
+
+release_refused_keeps : (k : Known) (s : ℕ) (why : ReleaseRefusal) → SeatKeeps k.ends.seat (after_release_refused k s why).ends.seat
+release_refused_keeps k s releasing.NotHeld = seat_itself k.ends.seat
+release_refused_keeps k s (releasing.Lost seen) = one_keeps k.ends.seat s _ (lost_keeps (library_at k.ends.seat s) seen)
+
+hand_refused_keeps : (k : Known) (s : ℕ) (why : HandRefusal) → SeatKeeps k.ends.seat (after_hand_refused k s why).ends.seat
+hand_refused_keeps k s handing.NotHeld = seat_itself k.ends.seat
+hand_refused_keeps k s (handing.BadHeir heir) = seat_itself k.ends.seat
+hand_refused_keeps k s (handing.Lost seen) = one_keeps k.ends.seat s _ (lost_keeps (library_at k.ends.seat s) seen)
+
 -- A kept call is this one of the library.
 pub record IsMade (call : Kept) (old new : Known) : Type 0 where
   pub made : Call
@@ -119,10 +142,49 @@ pub record IsMade (call : Kept) (old new : Known) : Type 0 where
   pub lawful : IsLawful old made
   pub kept : IsKeptAs old made (call ∷ [])
   pub stays : SeatStays old new
+  pub keeps : SeatKeeps old.ends.seat new.ends.seat
+  pub words : (s : ℕ) → AreKnown new.ends.seat s (word_kept s call)
 
 -- what it did to the seat
 behind : (old new now : Known) → new ≡ now → SeatStays old now → SeatStays old new
 behind old new now is stays = subst (SeatStays old) (sym is) stays
+
+keeps_behind : (old new now : Known) → new ≡ now → SeatKeeps old.ends.seat now.ends.seat → SeatKeeps old.ends.seat new.ends.seat
+keeps_behind old new now is keeps = subst (λ (k : Known). SeatKeeps old.ends.seat k.ends.seat) (sym is) keeps
+
+-- the word that a refusal has of a session
+known_behind : (new now : Known) (words : List Word) (t s : ℕ) → new ≡ now → (t ≡ s → AreKnown now.ends.seat s words) → AreKnown new.ends.seat s (if t == s then words else [])
+known_behind new now words t s is known = elim (cases_eq t s) [
+  | inl same ↦ subst (λ (b : Bool). AreKnown new.ends.seat s (if b then words else [])) (sym (eq-eqb t s same)) (subst (λ (k : Known). AreKnown k.ends.seat s words) (sym is) (known same))
+  | inr other ↦ subst (λ (b : Bool). AreKnown new.ends.seat s (if b then words else [])) (sym (ne_eqb t s other)) (none_known new.ends.seat s)
+]
+
+-- the one word of a lease that was lost
+lost_one : (seat : LibraryView) (t s : ℕ) (known : LibrarySession) (seen : Word) → t < length seat.knows.sessions → t ≡ s → AreKnown (with_library_at seat t (after_loss known seen)) s (seen ∷ [])
+lost_one seat t s known seen here same =
+    let now = with_library_at seat t (after_loss known seen) in
+    subst (λ k. AreKnown now k (seen ∷ [])) same (All-cons (IsKnownWord (library_at now t)) seen [] (lost_known seat t known seen here) (none_known now t))
+
+above_none : (n : ℕ) → 0 < n → n ≢ 0
+above_none n above is = omega arith
+
+refused_known : (k : Known) (t s : ℕ) (body : List ℕ) (taken : ℕ) (why : SendRefusal) → SendCause k t body taken why → t ≡ s → AreKnown (after_send_refused k t taken why).ends.seat s (lost_sending why)
+refused_known k t s body taken sending.NotHeld cause same = none_known k.ends.seat s
+refused_known k t s body taken (sending.TooLong size) cause same = none_known k.ends.seat s
+refused_known k t s body taken (sending.BadBody at) cause same = none_known k.ends.seat s
+refused_known k t s body taken (sending.LaneFull committed found) cause same = none_known (after_refusing k t taken (sending.LaneFull committed found)).ends.seat s
+refused_known k t s body taken (sending.SendsSpent count) cause same = none_known (after_refusing k t taken (sending.SendsSpent count)).ends.seat s
+refused_known k t s body taken (sending.Lost seen) cause same =
+    lost_one k.ends.seat t s (after_taken_load (library_at k.ends.seat t) taken) seen (held_there k t (above_none (held k t) cause.0.holding)) same
+
+release_known : (k : Known) (t s : ℕ) (why : ReleaseRefusal) → (IsReleaseNotHeld why ↔ (held k t ≡ 0)) → t ≡ s → AreKnown (after_release_refused k t why).ends.seat s (lost_releasing why)
+release_known k t s releasing.NotHeld cause same = none_known k.ends.seat s
+release_known k t s (releasing.Lost seen) cause same = lost_one k.ends.seat t s (library_at k.ends.seat t) seen (held_there k t (λ none. cause.1 none)) same
+
+hand_known : (k : Known) (t s : ℕ) (why : HandRefusal) → (IsHandNotHeld why ↔ (held k t ≡ 0)) → t ≡ s → AreKnown (after_hand_refused k t why).ends.seat s (lost_handing why)
+hand_known k t s handing.NotHeld cause same = none_known k.ends.seat s
+hand_known k t s (handing.BadHeir heir) cause same = none_known k.ends.seat s
+hand_known k t s (handing.Lost seen) cause same = lost_one k.ends.seat t s (library_at k.ends.seat t) seen (held_there k t (λ none. cause.1 none)) same
 
 requested : (s from : ℕ) (answer : Result ℕ AskError) (old new : Known) → Requests s from answer old new → IsMade (calls.Request s from answer) old new
 requested s from answer old new is = record {
@@ -132,6 +194,8 @@ requested s from answer old new is = record {
   kept = refl;
   stays = behind old new (after_request old s from new.ends.tail.taken answer) is.library
       (let x = asked_stays old s from new.ends.tail.taken answer in record { number = x.number; sessions = x.sessions });
+  keeps = keeps_behind old new (after_request old s from new.ends.tail.taken answer) is.library (asked_keeps old s from new.ends.tail.taken answer);
+  words = λ t. none_known new.ends.seat t;
 }
 
 found_by_poll : (event : Event) (old new : Known) → Polls event old new → IsMade (calls.Poll event) old new
@@ -143,6 +207,9 @@ found_by_poll event old new is =
       lawful = subst (λ e. OnHolding e (HasHold (after_poll old o))) is.event_is (subst (λ (k : Known). OnHolding event (HasHold k)) is.library is.held);
       kept = ap (λ e. calls.Poll e ∷ []) is.event_is;
       stays = behind old new (after_poll old o) is.library (polled_stays old o);
+      keeps = keeps_behind old new (after_poll old o) is.library (polled_keeps old o is.lease);
+      words = λ s. subst (λ e. AreKnown new.ends.seat s (lost_polling s e)) (sym is.event_is)
+          (event_known new.ends.seat s old o.found (taken_up old.kept o.popped) (last_known new.ends.seat (session_of (taken_up old.kept o.popped))));
     }
 
 sent_as : (s : ℕ) (body : List ℕ) (answer : Result Sent SendRefusal) (old new : Known) → SendsTo s body answer old new → IsMade (calls.Send s body answer) old new
@@ -152,6 +219,9 @@ sent_as s body (Ok sent) old new is = record {
   lawful = (is.4.holding, is.3);
   kept = λ i. calls.Send s body (Ok (record { lease = is.1 i; ordinal = is.2 i })) ∷ [];
   stays = behind old new (after_sent old s (taken_seen new s) (items_since old new s)) is.0 (record { number = refl; sessions = length-set old.ends.seat.knows.sessions s _ });
+  keeps = keeps_behind old new (after_sent old s (taken_seen new s) (items_since old new s)) is.0
+      (one_keeps old.ends.seat s _ (sent_keeps (library_at old.ends.seat s) (taken_seen new s) (items_since old new s) _));
+  words = λ t. none_known new.ends.seat t;
 }
 sent_as s body (Err why) old new is = record {
   made = send_refused s (taken_seen new s) why;
@@ -159,6 +229,8 @@ sent_as s body (Err why) old new is = record {
   lawful = tt;
   kept = (body, refl);
   stays = behind old new (after_send_refused old s (taken_seen new s) why) is.0 (let x = refused_stays old s (taken_seen new s) why in record { number = x.number; sessions = x.sessions });
+  keeps = keeps_behind old new (after_send_refused old s (taken_seen new s) why) is.0 (refused_keeps old s (taken_seen new s) why);
+  words = λ t. known_behind new (after_send_refused old s (taken_seen new s) why) (lost_sending why) s t is.0 (refused_known old s t body (taken_seen new s) why is.1);
 }
 
 released_as : (s : ℕ) (answer : Result Released ReleaseRefusal) (old new : Known) → Releases s answer old new → IsMade (calls.Release s answer) old new
@@ -168,6 +240,8 @@ released_as s (Ok released) old new is = record {
   lawful = is.1;
   kept = inl (refl, λ i. calls.Release s (Ok (record { lease = is.2 i; count = is.3 i })) ∷ []);
   stays = behind old new (after_giving_back old s 0 old.ends.seat.knows.number) is.0 (record { number = refl; sessions = length-set old.ends.seat.knows.sessions s _ });
+  keeps = keeps_behind old new (after_giving_back old s 0 old.ends.seat.knows.number) is.0 (one_keeps old.ends.seat s _ (given_keeps (library_at old.ends.seat s) 0 _));
+  words = λ t. none_known new.ends.seat t;
 }
 released_as s (Err why) old new is = record {
   made = release_refused s why;
@@ -175,6 +249,8 @@ released_as s (Err why) old new is = record {
   lawful = tt;
   kept = refl;
   stays = behind old new (after_release_refused old s why) is.0 (release_refused_stays old s why);
+  keeps = keeps_behind old new (after_release_refused old s why) is.0 (release_refused_keeps old s why);
+  words = λ t. known_behind new (after_release_refused old s why) (lost_releasing why) s t is.0 (release_known old s t why is.1);
 }
 
 handed_as : (s heir : ℕ) (answer : Result Released HandRefusal) (old new : Known) → Hands s heir answer old new → IsMade (calls.Hand s heir answer) old new
@@ -184,6 +260,8 @@ handed_as s heir (Ok released) old new is = record {
   lawful = is.1;
   kept = inr (λ i. calls.Hand s heir (Ok (record { lease = is.2 i; count = is.3 i })) ∷ []);
   stays = behind old new (after_giving_back old s heir heir) is.0 (record { number = refl; sessions = length-set old.ends.seat.knows.sessions s _ });
+  keeps = keeps_behind old new (after_giving_back old s heir heir) is.0 (one_keeps old.ends.seat s _ (given_keeps (library_at old.ends.seat s) heir _));
+  words = λ t. none_known new.ends.seat t;
 }
 handed_as s heir (Err why) old new is = record {
   made = hand_refused s why;
@@ -191,6 +269,8 @@ handed_as s heir (Err why) old new is = record {
   lawful = tt;
   kept = (heir, refl);
   stays = behind old new (after_hand_refused old s why) is.0 (hand_refused_stays old s why);
+  keeps = keeps_behind old new (after_hand_refused old s why) is.0 (hand_refused_keeps old s why);
+  words = λ t. known_behind new (after_hand_refused old s why) (lost_handing why) s t is.0 (hand_known old s t why is.1);
 }
 
 pub call_made : (what : LibStep) (call : Kept) (old new : Known) → MakesCall what call old new → IsMade call old new
@@ -204,6 +284,8 @@ call_made act.Beat call old new is = subst (λ c. IsMade c old new) (sym is.0) (
   lawful = tt;
   kept = refl;
   stays = behind old new (after_waiting Free (with_seat old (seat_after_beat old.ends.seat))) is.1 (record { number = refl; sessions = refl });
+  keeps = keeps_behind old new (after_waiting Free (with_seat old (seat_after_beat old.ends.seat))) is.1 (seat_itself old.ends.seat);
+  words = λ t. none_known new.ends.seat t;
 })
 call_made (act.Hand s heir) call old new is = subst (λ c. IsMade c old new) (sym is.1) (handed_as s heir is.0 old new is.2)
 call_made act.Answer call old new is = absurd is

@@ -23,9 +23,10 @@ use Rattle.library_desk.specs.declared.desk.LibraryDesk.{LibraryDesk}
 use Rattle.library_laws.specs.Feeds.{AreFed}
 use Rattle.library_laws.specs.Replies.{AreAnswered}
 use Rattle.library_laws.specs.Sends.{AreLogged, AreTaken}
+use Rattle.library_laws.specs.Spans.{AllLieWithin}
 use Rattle.library_laws.proofs.Steps.{each_in_turn}
 use Rattle.ring_links.specs.Ends.{HeadView, TailView}
-use Rattle.run_laws.specs.Accounted.{FitsTable, IsAccountedAt, LeavesAccounted, TookTextOrCutShort}
+use Rattle.run_laws.specs.Accounted.{AllTookAsAnswered, FitsTable, IsAccountedAt, LeavesAccounted, TookTextOrCutShort}
 use Rattle.run_laws.specs.Lives.{DesksMeet}
 use Rattle.run_laws.proofs.GoingOn.{GoingLaws, all_gathered}
 use Rattle.run_laws.proofs.Settled.{leases_stand}
@@ -35,6 +36,7 @@ use Rattle.session_book.specs.Records.{Pending}
 use Rattle.session_core.specs.State.{State}
 use Rattle.switchboard.specs.Board.{Board, book_at, connection_at}
 use Rattle.switchboard.specs.Ready.{IsReady}
+use Rattle.text_laws.specs.Answered.{DialledAreSo}
 use Rattle.text_laws.specs.Taken.{TookTheirTexts}
 
 -- what the laws of turns, meetings and gatherings say
@@ -45,12 +47,18 @@ pub record Laws (before : ℕ → List Entry) (start : ℕ → State) : Type 0 w
       → IsAccountedFor before start old.engine.moment (board_of old.engine) → IsAccountedFor before start new.engine.moment (board_of new.engine)
   pub turn_answered : (reading : ℕ) (old new : AtWire) (turn : Turn) → MakesTurn reading old new turn → AreAnswered before old.engine.sessions → AreAnswered before new.engine.sessions
   pub turn_fed : (reading : ℕ) (old new : AtWire) (turn : Turn) → MakesTurn reading old new turn → AreFed old.engine.sessions → AreFed new.engine.sessions
+  pub turn_within : (reading : ℕ) (old new : AtWire) (turn : Turn) → MakesTurn reading old new turn → IsReady before old.engine.sessions.desk.board → AreFed old.engine.sessions
+      → AllLieWithin old.engine.sessions → AllLieWithin new.engine.sessions
   pub turn_taken : (reading : ℕ) (old new : AtWire) (turn : Turn) → MakesTurn reading old new turn → IsReady before old.engine.sessions.desk.board
       → AreTaken before old.engine.sessions.desk → AreTaken before new.engine.sessions.desk
+  pub turn_dialled : (reading : ℕ) (old new : AtWire) (turn : Turn) → MakesTurn reading old new turn → IsReady before old.engine.sessions.desk.board
+      → DialledAreSo old.engine.sessions.desk.board → DialledAreSo new.engine.sessions.desk.board
   pub meets_answered : (library : ℕ) (old new : LibraryDesk) (tail_old tail_new : TailView Command) (head_old head_new : HeadView Notice) → 1 ≤ library
       → RingsMeet library old new tail_old tail_new head_old head_new → new ≡ record old { desk = record (old.desk) { seat = new.desk.seat }; ends = new.ends } → AreAnswered before old → AreAnswered before new
   pub meets_fed : (library : ℕ) (old new : LibraryDesk) (tail_old tail_new : TailView Command) (head_old head_new : HeadView Notice) → 1 ≤ library
       → RingsMeet library old new tail_old tail_new head_old head_new → new ≡ record old { desk = record (old.desk) { seat = new.desk.seat }; ends = new.ends } → AreFed old → AreFed new
+  pub meets_within : (library : ℕ) (old new : LibraryDesk) (tail_old tail_new : TailView Command) (head_old head_new : HeadView Notice) → 1 ≤ library
+      → RingsMeet library old new tail_old tail_new head_old head_new → new ≡ record old { desk = record (old.desk) { seat = new.desk.seat }; ends = new.ends } → AllLieWithin old → AllLieWithin new
   pub meets_taken : (library_old library_new : LibraryView) (old new : LeaseDesk) → SeatsMeet old.seat new.seat library_old library_new → new.board ≡ old.board → AreTaken before old → AreTaken before new
   pub gathers_account : (progress : ℕ → Progress) (s at until : ℕ) (old new : LeaseDesk) → Gathers s at until old new → KeepsAccount progress progress at old.board new.board
   pub itself : (progress : ℕ → Progress) (at : ℕ) (board : Board) → KeepsAccount progress progress at board board
@@ -58,12 +66,16 @@ pub record Laws (before : ℕ → List Entry) (start : ℕ → State) : Type 0 w
   pub gathers_answered : (seats : List LibraryView) (at until : ℕ) (old : LibraryDesk) (gathered : LeaseDesk) → GathersAll at until (after_settling seats old.desk) gathered
       → AreAnswered before old → AreAnswered before (record old { desk = gathered })
   pub gathers_fed : (seats : List LibraryView) (at until : ℕ) (old : LibraryDesk) (gathered : LeaseDesk) → GathersAll at until (after_settling seats old.desk) gathered → AreFed old → AreFed (record old { desk = gathered })
+  pub gathers_within : (seats : List LibraryView) (at until : ℕ) (old : LibraryDesk) (gathered : LeaseDesk) → GathersAll at until (after_settling seats old.desk) gathered
+      → AllLieWithin old → AllLieWithin (record old { desk = gathered })
   pub gathers_taken : (seats : List LibraryView) (at until : ℕ) (old gathered : LeaseDesk) → GathersAll at until (after_settling seats old) gathered → IsReady before old.board → AreTaken before old → AreTaken before gathered
+  pub gathers_dialled : (seats : List LibraryView) (at until : ℕ) (old gathered : LeaseDesk) → GathersAll at until (after_settling seats old) gathered → IsReady before old.board → DialledAreSo old.board → DialledAreSo gathered.board
   pub finishes : (seats : List LibraryView) (unkept : List Pending) (accepted at until : ℕ) (old : LibraryDesk) (left : EngineRecord) (finished : Finishes seats unkept accepted at until old left)
       → IsReady before old.desk.board → AreTaken before old.desk → (s : ℕ) (seat : LibraryView) → s < length old.desk.board.sessions → Contains seats seat → 1 ≤ seat.knows.number
       → seat.knows.number ≤ old.desk.seat.table.shape.libraries → AreLogged seat.knows.number (before s) (book_at finished.gathered.board s) (library_at seat s).items
   pub text_gathers : (seats : List LibraryView) (links : ℕ → Link) (at until : ℕ) (old gathered : LeaseDesk) → GathersAll at until (after_settling seats old) gathered → IsReady before old.board
       → TookTheirTexts old.board links → TookTheirTexts gathered.board links
+  pub text_answers : (board : Board) (links : ℕ → Link) → IsReady before board → TookTheirTexts board links → AllTookAsAnswered before board links
   pub text_told : (board : Board) (links : ℕ → Link) → IsReady before board → TookTheirTexts board links → (k : ℕ) → k < length board.connections → (connection_at board k).cause ≢ None → TookTextOrCutShort before board links k
 
 module _ (before : ℕ → List Entry) (start : ℕ → State) (laws : Laws before start) where
@@ -73,7 +85,9 @@ module _ (before : ℕ → List Entry) (start : ℕ → State) (laws : Laws befo
     account = laws.turn_account reading old new turn makes was.ready was.account;
     answered = laws.turn_answered reading old new turn makes was.answered;
     fed = laws.turn_fed reading old new turn makes was.fed;
+    within = laws.turn_within reading old new turn makes was.ready was.fed was.within;
     taken = laws.turn_taken reading old new turn makes was.ready was.taken;
+    dialled = laws.turn_dialled reading old new turn makes was.ready was.dialled;
   }
 
   pub met : (moment library : ℕ) (old new : LibraryDesk) (ends_old ends_new : EndsView) → DesksMeet library old new ends_old ends_new → IsAccountedAt before start moment old → IsAccountedAt before start moment new
@@ -84,7 +98,9 @@ module _ (before : ℕ → List Entry) (start : ℕ → State) (laws : Laws befo
         account = subst (IsAccountedFor before start moment) (sym board) was.account;
         answered = laws.meets_answered library old new _ _ _ _ is.from_one is.rings is.rest was.answered;
         fed = laws.meets_fed library old new _ _ _ _ is.from_one is.rings is.rest was.fed;
+        within = laws.meets_within library old new _ _ _ _ is.from_one is.rings is.rest was.within;
         taken = laws.meets_taken _ _ old.desk new.desk is.seats board was.taken;
+        dialled = subst DialledAreSo (sym board) was.dialled;
       }
 
   -- the last gathering keeps the account
@@ -118,13 +134,16 @@ module _ (before : ℕ → List Entry) (start : ℕ → State) (laws : Laws befo
           account = keeps.account before start at (omega arith) was.ready was.account;
           answered = laws.gathers_answered seats at until old gathered finished.gathers was.answered;
           fed = laws.gathers_fed seats at until old gathered finished.gathers was.fed;
+          within = laws.gathers_within seats at until old gathered finished.gathers was.within;
           taken = taken;
+          dialled = laws.gathers_dialled seats at until old.desk gathered finished.gathers was.ready was.dialled;
         };
         leaves = (let leaves = finished.leaves in record { sessions = leaves.sessions; connections = leaves.connections; strays_are = leaves.strays_are; accepted_is = leaves.accepted_is; added_are = refl });
         logged = λ s seat small has.
             let fits = All-contains (FitsTable libraries) seats seat fit has in
             laws.finishes seats engine.lines.unkept.items engine.accepted at until old left.engine finished was.ready was.taken s seat (subst (λ n. s < n) sessions small) has fits.0 fits.1;
         texts = laws.text_told gathered.board links (keeps.ready before was.ready) (laws.text_gathers seats links at until old.desk gathered finished.gathers was.ready texts);
-        leases = leases_stand seats engine.lines.unkept.items engine.accepted at until old left.engine finished sessions;
+        answers = laws.text_answers gathered.board links (keeps.ready before was.ready) (laws.text_gathers seats links at until old.desk gathered finished.gathers was.ready texts);
+        leases = leases_stand before seats engine.lines.unkept.items engine.accepted at until old left.engine finished taken sessions;
         libraries = libraries_are;
       }

@@ -2,6 +2,7 @@ mod Asked
 mod Borne
 mod Calls
 mod Carried
+mod Deeds
 mod Engines
 mod Given
 mod GoingOn
@@ -10,6 +11,7 @@ mod Lived
 mod Numbers
 mod Open
 mod Places
+mod Seats
 mod Settled
 mod Sides
 mod Starts

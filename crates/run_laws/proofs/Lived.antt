@@ -1,7 +1,9 @@
 -- The libraries of a run live on, step by step.
-use Rattle.std.proofs.Common.{◌≡◌, ◌≢◌, inl, inr, ℕ, zero, suc, ◌+◌, ◌-◌, ◌<◌, ◌≤◌, Bool, List, [], ◌∷◌, ◌++◌, length, None, Some, Result, refl, ap, subst, sym, ◌∙◌, arith}
+use Rattle.std.proofs.Common.{◌≡◌, ◌≢◌, inl, inr, ℕ, zero, suc, ◌+◌, ◌-◌, ◌<◌, ◌≤◌, Bool, List, [], ◌∷◌, ◌++◌, length, None, Some, Result, Ok, Err, refl, ap, subst, sym, ◌∙◌, arith}
 use Rattle.std.proofs.lemmas.Bool.{cases_lt}
+use Rattle.std.proofs.lemmas.Grind.{flat_map-append}
 use Rattle.std.proofs.lemmas.List.{append-nil, append_assoc, length-replicate}
+use Rattle.std.proofs.lemmas.List.Elements.{All-append, All-weaker}
 use Rattle.std.proofs.lemmas.Option.{slice_get_within}
 use Rattle.std.specs.List.{flat_map}
 use Rattle.std.specs.Prelude.{replicate, slice_get, slice_index_or, slice_set}
@@ -30,6 +32,7 @@ use Rattle.library_laws.specs.Replies.{AreAnswered, answered_by, asked_by}
 use Rattle.ring_links.specs.Ends.{HeadView, TailView}
 use Rattle.ring_links.specs.declared.queue.Full.{Full}
 use Rattle.run_laws.specs.Accounted.{IsAccountedRun}
+use Rattle.run_laws.specs.Deeds.{AreRising, IsKnownWord, word_kept, words_kept}
 use Rattle.run_laws.specs.Lives.{AreKept, AreUnused, DesksMeet, HasLived, HaveLived, IsInVain, IsKeptAs, IsLibraryOf, IsRepliedInOrder, IsReportedAs, IsServedAt, Life, life_of}
 use Rattle.script_run.specs.declared.callers.Caller.{Caller}
 use Rattle.script_run.specs.declared.run.Run.{Run}
@@ -38,6 +41,7 @@ use Rattle.run_laws.proofs.Carried.{RunLaws, carried as account_carried, met as 
 use Rattle.run_laws.proofs.GoingOn.{made_turn}
 use Rattle.run_laws.proofs.Numbers.{answers_met, replies_met}
 use Rattle.run_laws.proofs.Places.{OfEach, each_behind, get_set_other, get_set_same}
+use Rattle.run_laws.proofs.Seats.{AreKnown, SeatKeeps, SessionKeeps, met_keeps, none_known, seat_itself}
 use Rattle.run_laws.proofs.Sides.{begins_further, begins_itself}
 use Rattle.run_laws.proofs.Starts.{past_end}
 use Rattle.library_laws.proofs.Steps.{each_in_turn}
@@ -65,10 +69,21 @@ kept_append Keeps k [] more first then none is = subst (λ kept. AreKept Keeps k
 kept_append Keeps k (call ∷ calls) more first then are is =
     (are.0, are.1 ++ then, ap (λ kept. kept ++ then) are.2 ∙ append_assoc are.0 are.1 then, are.3, kept_append Keeps (after_call k call) calls more are.1 then are.4 is)
 
+-- the words that were seen before and in this call
+pub words_on : (s : ℕ) (old new : LibraryView) (calls kept : List Kept) → SessionKeeps (library_at old s) (library_at new s) → AreKnown old s (words_kept s calls) → AreKnown new s (words_kept s kept)
+    → AreKnown new s (words_kept s (calls ++ kept))
+words_on s old new calls kept keeps before now =
+    subst (AreKnown new s) (sym (flat_map-append (word_kept s) calls kept))
+    (All-append (IsKnownWord (library_at new s)) (words_kept s calls) (words_kept s kept)
+    (All-weaker (IsKnownWord (library_at old s)) (IsKnownWord (library_at new s)) keeps.words (words_kept s calls) before) now)
+
+one_seen : (seat : LibraryView) (s : ℕ) (call : Kept) → AreKnown seat s (word_kept s call) → AreKnown seat s (words_kept s (call ∷ []))
+one_seen seat s call known = subst (AreKnown seat s) (sym (append-nil (word_kept s call))) known
+
 -- one call more
 abbrev pub lived_on : (Keeps : Known → Call → List Kept → Type 0) (requests : ℕ) (old new : Life) (call : Call) (kept : List Kept) → new.library ≡ after_call old.library call → IsLawful old.library call → Keeps old.library call kept
-    → new.calls ≡ old.calls ++ kept → HasLived Keeps requests old → HasLived Keeps requests new
-lived_on Keeps requests old new call kept after lawful is_kept calls was =
+    → new.calls ≡ old.calls ++ kept → SeatKeeps old.library.ends.seat new.library.ends.seat → ((s : ℕ) → AreKnown new.library.ends.seat s (words_kept s kept)) → HasLived Keeps requests old → HasLived Keeps requests new
+lived_on Keeps requests old new call kept after lawful is_kept calls keeps words was =
     let k = new_library was.first requests in
     let last = after_calls k was.made in
     record {
@@ -79,7 +94,13 @@ lived_on Keeps requests old new call kept after lawful is_kept calls was =
       known = after ∙ (ap (λ (now : Known). after_call now call) was.known ∙ sym (after_append k was.made (call ∷ [])));
       kept = subst (AreKept Keeps k (was.made ++ call ∷ [])) (sym calls)
           (kept_append Keeps k was.made (call ∷ []) old.calls kept was.kept (kept, [], sym (append-nil kept), subst (λ (now : Known). Keeps now call kept) was.known is_kept, refl));
+      rising = λ s. (keeps s).rising (was.rising s);
+      words = λ s. subst (λ all. AreKnown new.library.ends.seat s (words_kept s all)) (sym calls) (words_on s old.library.ends.seat new.library.ends.seat old.calls kept (keeps s) (was.words s) (words s));
     }
+
+-- nothing is kept of it
+abbrev none_seen : (life : Life) (s : ℕ) → AreKnown life.library.ends.seat s []
+none_seen life s = none_known life.library.ends.seat s
 
 -- a meeting gives a seat no session
 met_sessions : (library : ℕ) (es : List EngineSession) (ls : List LibrarySession) → length (library_sessions_after_meeting library es ls) ≤ length ls
@@ -113,12 +134,19 @@ module _ (number : ℕ) (engine_old engine_new : LibraryDesk) (old new : EndsVie
     popped = ap (λ head. head.popped) rings.notices.head;
   }
 
+  pub has_kept : SeatKeeps old.seat new.seat
+  has_kept = met_keeps engine_old.desk.seat engine_new.desk.seat old.seat new.seat seats
+      (λ s past.
+      (let shorter = seat_met engine_old.desk.seat engine_new.desk.seat old.seat new.seat seats in
+      past_end new.seat.knows.sessions s no_library_session (omega arith) ∙ sym (past_end old.seat.knows.sessions s no_library_session (omega arith))))
+
 abbrev meeting_lived : (requests : ℕ) (engine_old engine_new : Engine) (old new : Caller) → MeetsCaller engine_old engine_new old new → length old.library.ends.seat.knows.sessions ≤ engine_old.sessions.desk.seat.table.shape.sessions
     → HasLived IsKeptAs requests (life_of old) → HasLived IsKeptAs requests (life_of new)
 meeting_lived requests engine_old engine_new old new is within was =
     lived_on IsKeptAs requests (life_of old) (life_of new) (meets new.library.ends) [] (ap (λ (c : Caller). c.library) is.caller)
     (has_met old.number engine_old.sessions engine_new.sessions old.library.ends new.library.ends is.seats is.rings within) refl
-    (ap (λ (c : Caller). c.calls.items) is.caller ∙ sym (append-nil old.calls.items)) was
+    (ap (λ (c : Caller). c.calls.items) is.caller ∙ sym (append-nil old.calls.items))
+    (has_kept old.number engine_old.sessions engine_new.sessions old.library.ends new.library.ends is.seats is.rings within) (none_seen (life_of new)) was
 
 -- what holds of each library, where that at one place may have popped what its meeting tells
 record IsAlmost (requests : ℕ) (d : LibraryDesk) (place j : ℕ) (caller : Caller) : Type 0 where
@@ -237,10 +265,10 @@ module _ (numbered : RequestsAreNumbered) (before : ℕ → List Entry) (start :
       (λ j caller other is. record { number = is.number; lived = is.lived; replied = λ beside. is.replied; pending = λ now. is.replied; seat = is.seat; served = λ beside. is.served })
       (λ is. record {
         number = ap (λ (c : Caller). c.number) calls.rest ∙ is.number;
-        lived = lived_on IsKeptAs requests (life_of one.before) (life_of one.after) made.made (calls.call ∷ []) made.after made.lawful made.kept calls.told is.lived;
+        lived = lived_on IsKeptAs requests (life_of one.before) (life_of one.after) made.made (calls.call ∷ []) made.after made.lawful made.kept calls.told made.keeps (λ s. one_seen one.after.library.ends.seat s calls.call (made.words s)) is.lived;
         replied = λ beside. absurd (beside refl);
         pending = λ now.
-            let on = lived_on IsKeptAs requests (life_of one.before) (life_of one.after) made.made (calls.call ∷ []) made.after made.lawful made.kept calls.told is.lived in
+            let on = lived_on IsKeptAs requests (life_of one.before) (life_of one.after) made.made (calls.call ∷ []) made.after made.lawful made.kept calls.told made.keeps (λ s. one_seen one.after.library.ends.seat s calls.call (made.words s)) is.lived in
             replied_on (new_library is.lived.first requests) is.lived.made made.made is.replied (subst AreReplies on.known now);
         seat = subst (λ n. n ≤ old.engine.sessions.desk.seat.table.shape.sessions) (sym made.stays.sessions) is.seat;
         served = λ beside. absurd (beside refl);
@@ -334,6 +362,8 @@ first_lived config moment shared run starts place caller found =
         lawful = tt;
         known = one.library;
         kept = one.calls;
+        rising = λ s. subst (λ (known : LibrarySession). AreRising known.leases) (sym (ap (λ (v : LibraryView). library_at v s) one.seat ∙ none_there shape.sessions s no_library_session)) tt;
+        words = λ s. subst (λ all. AreKnown caller.library.ends.seat s (words_kept s all)) (sym one.calls) (none_known caller.library.ends.seat s);
       };
       replied = record {
         numbers = ap replies_in popped ∙ sym (ap (λ ns. numbers_to (length (replies_in ns))) popped);
@@ -356,12 +386,21 @@ first_lived config moment shared run starts place caller found =
 
 -- A library's life, whoever makes its calls.
 pub lives : (requests : ℕ) (life : Life) → AreUnused life.library.ends → life.library ≡ new_library life.library.ends requests → life.calls ≡ [] → HasLived IsReportedAs requests life
-lives requests life unused is none = record { first = life.library.ends; unused = unused; made = []; lawful = tt; known = is; kept = none }
+lives requests life unused is none = record {
+  first = life.library.ends;
+  unused = unused;
+  made = [];
+  lawful = tt;
+  known = is;
+  kept = none;
+  rising = λ s. subst (λ (known : LibrarySession). AreRising known.leases) (sym (unused.sessions s)) tt;
+  words = λ s. subst (λ all. AreKnown life.library.ends.seat s (words_kept s all)) (sym none) (none_known life.library.ends.seat s);
+}
 
 pub reported : (requests : ℕ) (what : LibStep) (call : Kept) (old new : Life) → MakesCall what call old.library new.library → new.calls ≡ old.calls ++ call ∷ [] → HasLived IsReportedAs requests old → HasLived IsReportedAs requests new
 reported requests what call old new makes calls was =
     let made = call_made what call old.library new.library makes in
-    lived_on IsReportedAs requests old new made.made (call ∷ []) made.after made.lawful (inl made.kept) calls was
+    lived_on IsReportedAs requests old new made.made (call ∷ []) made.after made.lawful (inl made.kept) calls made.keeps (λ s. one_seen new.library.ends.seat s call (made.words s)) was
 
 -- what isn't kept
 none_more : (old new : Life) → new.calls ≡ old.calls → new.calls ≡ old.calls ++ []
@@ -370,18 +409,24 @@ none_more old new same = same ∙ sym (append-nil old.calls)
 pub waited : (requests : ℕ) (what : LibStep) (call : Kept) (old new : Life) → MakesCall what call old.library new.library → IsInVain call → new.calls ≡ old.calls → HasLived IsReportedAs requests old → HasLived IsReportedAs requests new
 waited requests what call old new makes vain same was =
     let made = call_made what call old.library new.library makes in
-    lived_on IsReportedAs requests old new made.made [] made.after made.lawful (inr (inl (record { one = call; is = made.kept; vain = vain; none = refl }))) (none_more old new same) was
+    lived_on IsReportedAs requests old new made.made [] made.after made.lawful (inr (inl (record { one = call; is = made.kept; vain = vain; none = refl }))) (none_more old new same) made.keeps (none_seen new) was
+
+done_keeps : (k : Known) (command : Command) (taken : ℕ) (answer : Result (Unit {0}) (Full Command)) → SeatKeeps k.ends.seat (after_done k command taken answer).ends.seat
+done_keeps k command taken (Ok unit) = seat_itself k.ends.seat
+done_keeps k command taken (Err full) = seat_itself k.ends.seat
 
 pub told_end : (requests : ℕ) (finished : Bool) (taken : ℕ) (answer : Result (Unit {0}) (Full Command)) (old new : Life) → new.library ≡ after_done old.library (commands.Done finished) taken answer → new.calls ≡ old.calls
     → HasLived IsReportedAs requests old → HasLived IsReportedAs requests new
 told_end requests finished taken answer old new is same was =
-    lived_on IsReportedAs requests old new (is_done finished taken answer) [] is tt (inr (inr (record { finished = finished; taken = taken; answer = answer; is = refl; none = refl }))) (none_more old new same) was
+    lived_on IsReportedAs requests old new (is_done finished taken answer) [] is tt (inr (inr (record { finished = finished; taken = taken; answer = answer; is = refl; none = refl }))) (none_more old new same)
+    (subst (λ (k : Known). SeatKeeps old.library.ends.seat k.ends.seat) (sym is) (done_keeps old.library (commands.Done finished) taken answer)) (none_seen new) was
 
 pub met_lived : (requests number : ℕ) (engine_old engine_new : LibraryDesk) (old new : Life) → DesksMeet number engine_old engine_new old.library.ends new.library.ends
     → length old.library.ends.seat.knows.sessions ≤ engine_old.desk.seat.table.shape.sessions → new.library ≡ record (old.library) { ends = new.library.ends } → new.calls ≡ old.calls
     → HasLived IsReportedAs requests old → HasLived IsReportedAs requests new
 met_lived requests number engine_old engine_new old new is within library same was =
-    lived_on IsReportedAs requests old new (meets new.library.ends) [] library (has_met number engine_old engine_new old.library.ends new.library.ends is.seats is.rings within) (inl refl) (none_more old new same) was
+    lived_on IsReportedAs requests old new (meets new.library.ends) [] library (has_met number engine_old engine_new old.library.ends new.library.ends is.seats is.rings within) (inl refl) (none_more old new same)
+    (has_kept number engine_old engine_new old.library.ends new.library.ends is.seats is.rings within) (none_seen new) was
 
 pub met_beside : (place j number : ℕ) (engine_old engine_new : LibraryDesk) (tail_old tail_new : TailView Command) (head_old head_new : HeadView Notice) (life : Life) → j ≢ place
     → RingsMeet number engine_old engine_new tail_old tail_new head_old head_new → number ≡ place + 1 → IsServedAt engine_old.ends.items j life → IsServedAt engine_new.ends.items j life

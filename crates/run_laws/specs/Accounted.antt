@@ -11,17 +11,18 @@ use Rattle.engine_loop.specs.declared.engine.Engine.{Engine}
 use Rattle.engine_start.specs.Starts.{configured_book}
 use Rattle.gate_io.specs.MemWire.{link_at}
 use Rattle.gate_io.specs.Wire.{Link}
-use Rattle.lease_core.specs.Lines.{lines_of}
+use Rattle.lease_core.specs.Lines.{IsShown, lines_of}
 use Rattle.lease_core.specs.declared.entry.Entry.{Entry}
 use Rattle.lease_core.specs.declared.lease.Line.{Line}
 use Rattle.lease_desk.specs.declared.desk.LeaseDesk.{LeaseDesk}
-use Rattle.lease_words.specs.Leases.{Each, Stands}
+use Rattle.lease_words.specs.Leases.{Each, OthersRest, Stands}
 use Rattle.lease_words.specs.Views.{LibraryView, library_at}
-use Rattle.lease_words.specs.declared.view.LibraryLease.{LibraryLease}
+use Rattle.lease_words.specs.declared.view.LibrarySession.{LibrarySession}
 use Rattle.library_desk.specs.declared.desk.LibraryDesk.{LibraryDesk}
 use Rattle.library_laws.specs.Feeds.{AreFed}
 use Rattle.library_laws.specs.Replies.{AreAnswered}
 use Rattle.library_laws.specs.Sends.{AreLogged, AreTaken}
+use Rattle.library_laws.specs.Spans.{AllLieWithin}
 use Rattle.run_report.specs.declared.records.LibReport.{LibReport}
 use Rattle.run_report.specs.declared.records.RunRecord.{RunRecord}
 use Rattle.script_run.specs.declared.callers.Caller.{Caller}
@@ -30,8 +31,9 @@ use Rattle.script_run.specs.Means.{report_of, seat_of}
 use Rattle.session_core.specs.State.{State}
 use Rattle.switchboard.specs.Board.{Board, book_at, connection_at}
 use Rattle.switchboard.specs.Going.{GoesOnTo}
-use Rattle.switchboard.specs.Ready.{IsReady}
-use Rattle.text_laws.specs.Taken.{IsCutShort, TookTextOf, TookTheirTexts}
+use Rattle.switchboard.specs.Ready.{HasTextOf, IsReady}
+use Rattle.text_laws.specs.Answered.{DialledAreSo}
+use Rattle.text_laws.specs.Taken.{IsCutShort, TookAsAnswered, TookTextOf, TookTheirTexts}
 
 -- the entries before a run: no session has one
 abbrev pub no_entries : ℕ → List Entry
@@ -42,13 +44,16 @@ abbrev pub first_machines : Config → ℕ → State
 first_machines config s = (configured_book config.leases (names_of config s) (dial_of config s)).machine
 
 -- Up to a moment all that happened is accounted for. Sessions and connections are ready; each journal tells the acts of what came, each request was answered
--- once, each lease was fed its messages in order, and each send that a log has was taken of its library's lane.
+-- once, each lease was fed its messages in order and within what its library holds by it, each send that a log has was taken of its library's lane, and the
+-- Logon of a dialled connection counts as answered where what was handled of that answers it.
 pub record IsAccountedAt (before : ℕ → List Entry) (start : ℕ → State) (moment : ℕ) (d : LibraryDesk) : Type 0 where
   pub ready : IsReady before d.desk.board
   pub account : IsAccountedFor before start moment d.desk.board
   pub answered : AreAnswered before d
   pub fed : AreFed d
+  pub within : AllLieWithin d
   pub taken : AreTaken before d.desk
+  pub dialled : DialledAreSo d.desk.board
 
 -- a library has the number behind its place, and so has its seat
 pub record IsNumbered (place : ℕ) (caller : Caller) : Type 0 where
@@ -71,15 +76,18 @@ abbrev pub AllAreLogged : (ℕ → List Entry) → Board → List LibraryView �
 AllAreLogged before board seats =
     (s : ℕ) (seat : LibraryView) → s < length board.sessions → Contains seats seat → AreLogged seat.knows.number (before s) (book_at board s) (library_at seat s).items
 
--- each of these leases of a library stands in the lines of a journal, with the library's own count of sends and as it gave it back
-pub record LeasesStand (lines : List Line) (library : ℕ) (leases : List LibraryLease) : Type 0 where
-  pub base : ℕ
-  pub each : Each (Stands base lines library) leases
+-- What a library knows of a session stands in the lines of a journal. Each of its leases does, with its own count of sends and as it gave it back; its other lines,
+-- above those that were before its table, have no sends and weren't given back; and each word that it saw is shown.
+pub record LeasesStand (base : ℕ) (lines : List Line) (library : ℕ) (known : LibrarySession) : Type 0 where
+  pub each : Each (Stands base lines library) known.leases
+  pub others : OthersRest base lines library known.leases
+  pub words : Each (IsShown lines) known.words
 
--- and so do all that the libraries' seats had
-abbrev pub AllLeasesStand : Board → List LibraryView → Type 0
-AllLeasesStand board seats =
-    (s : ℕ) (seat : LibraryView) → s < length board.sessions → Contains seats seat → LeasesStand (lines_of (book_at board s).entries) seat.knows.number (library_at seat s).leases
+-- and so does all that the libraries' seats know
+abbrev pub AllLeasesStand : (ℕ → List Entry) → Board → List LibraryView → Type 0
+AllLeasesStand before board seats =
+    (s : ℕ) (seat : LibraryView) → s < length board.sessions → Contains seats seat
+    → LeasesStand (length (lines_of (before s))) (lines_of (book_at board s).entries) seat.knows.number (library_at seat s)
 
 -- the sessions of an engine, once each was gathered at the end
 abbrev pub gathered_of : Engine → LeaseDesk → LibraryDesk
@@ -92,6 +100,10 @@ TookTextOrCutShort before board links k = TookTextOf before board k (connection_
 -- and so did each
 abbrev pub EndedTookTexts : (ℕ → List Entry) → Board → (ℕ → Link) → Type 0
 EndedTookTexts before board links = (k : ℕ) → k < length board.connections → (connection_at board k).cause ≢ None → TookTextOrCutShort before board links k
+
+-- and each took it as the answer to its Logon has it
+abbrev pub AllTookAsAnswered : (ℕ → List Entry) → Board → (ℕ → Link) → Type 0
+AllTookAsAnswered before board links = (s k : ℕ) → k < length board.connections → (told : HasTextOf before board s k) → TookAsAnswered before board links s k told
 
 -- a seat's number is one of the table's
 abbrev pub FitsTable : ℕ → LibraryView → Type 0
@@ -107,7 +119,8 @@ pub record LeavesAccounted (before : ℕ → List Entry) (start : ℕ → State)
   pub leaves : IsLeftBy gathered.board engine.sessions.strays.items engine.accepted left.engine.added left.engine
   pub logged : AllAreLogged before gathered.board seats
   pub texts : EndedTookTexts before gathered.board links
-  pub leases : AllLeasesStand gathered.board seats
+  pub answers : AllTookAsAnswered before gathered.board links
+  pub leases : AllLeasesStand before gathered.board seats
   pub libraries : left.libraries ≡ reports
 
 -- what a run of a script leaves

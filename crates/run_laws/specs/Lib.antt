@@ -1,4 +1,5 @@
 pub mod Sides
+pub mod Deeds
 pub mod Accounted
 pub mod Lives
 pub mod Reports

@@ -1,6 +1,6 @@
 -- What a library of a run did since it began: its calls, and its meetings with the engine.
 use Rattle.std.specs.Prelude.{◌≡◌, ◌⊎◌, ℕ, ◌+◌, ◌≤◌, Bool, true, List, [], ◌∷◌, ◌++◌, length, slice_get, Some, Result, Ok, Err}
-use Rattle.std.specs.List.{flat_map}
+use Rattle.std.specs.List.{All, flat_map}
 use Rattle.engine_end.specs.Meeting.{RingsMeet, SeatsMeet}
 use Rattle.lease_core.specs.declared.messages.Command.{Command}
 use Rattle.lease_words.specs.Views.{library_at, no_library_session}
@@ -16,6 +16,7 @@ use Rattle.ring_links.specs.declared.queue.Full.{Full}
 use Rattle.script_run.specs.declared.callers.Caller.{Caller}
 use Rattle.script_run.specs.declared.run.Run.{Run}
 use Rattle.library_laws.specs.Replies.{answered_by, asked_by}
+use Rattle.run_laws.specs.Deeds.{AreRising, IsKnownWord, words_kept}
 use Rattle.run_laws.specs.Sides.{Begins}
 use Rattle.run_report.specs.declared.calls.Call.{Call as Kept}
 use Rattle.run_report.specs.declared.calls.Call.TheVariants as calls
@@ -91,7 +92,8 @@ pub record AreUnused (ends : EndsView) : Type 0 where
   pub pushed : ends.tail.pushed ≡ []
   pub popped : ends.head.popped ≡ []
 
--- A library began with ends at which nothing was done. These calls, in order and each as its clauses say, led it to what it knows; and the run kept them so.
+-- A library began with ends at which nothing was done. These calls, in order and each as its clauses say, led it to what it knows; and the run kept them so. Of each
+-- session its leases rose, and it knows each word by which a kept call found one lost.
 pub record HasLived (Keeps : Known → Call → List Kept → Type 0) (requests : ℕ) (life : Life) : Type 0 where
   pub first : EndsView
   pub unused : AreUnused first
@@ -99,6 +101,8 @@ pub record HasLived (Keeps : Known → Call → List Kept → Type 0) (requests 
   pub lawful : AreLawful (new_library first requests) made
   pub known : life.library ≡ after_calls (new_library first requests) made
   pub kept : AreKept Keeps (new_library first requests) made life.calls
+  pub rising : (s : ℕ) → AreRising (library_at life.library.ends.seat s).leases
+  pub words : (s : ℕ) → All (IsKnownWord (library_at life.library.ends.seat s)) (words_kept s life.calls)
 
 -- Before its first call and behind each the replies that it popped have the numbers 1, 2 and so on of its requests.
 abbrev pub IsRepliedInOrder : (requests : ℕ) (life : Life) → HasLived IsKeptAs requests life → Type 0

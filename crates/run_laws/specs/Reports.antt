@@ -2,7 +2,7 @@
 use Rattle.std.specs.Prelude.{◌≡◌, ◌⊎◌, ℕ, ◌+◌, ◌-◌, ◌<◌, ◌≤◌, ◌==◌, if◌then◌else◌, List, [], ◌∷◌, ◌++◌, length, map, slice_get, Some, Ok, Err}
 use Rattle.std.specs.List.{All, Contains, flat_map}
 use Rattle.lease_core.specs.declared.entry.Entry.{Entry}
-use Rattle.lease_core.specs.Lines.{lines_of}
+use Rattle.lease_core.specs.Lines.{IsShown, lines_of}
 use Rattle.lease_core.specs.declared.lease.Ending.TheVariants.{GivenBack}
 use Rattle.lease_core.specs.declared.lease.Line.{Line}
 use Rattle.lease_core.specs.declared.messages.Notice.{Notice}
@@ -18,7 +18,9 @@ use Rattle.library_desk.specs.declared.desk.LibraryDesk.{LibraryDesk}
 use Rattle.library_desk.specs.declared.desk.Stray.{Stray}
 use Rattle.library_laws.specs.Replies.{Ask, answered_by, replies_told, reply_of, stray_told}
 use Rattle.library_laws.specs.Sends.{logged_bodies}
+use Rattle.library_laws.specs.Spans.{LiesWithin}
 use Rattle.message_log.specs.declared.entry.OutEntry.{OutEntry}
+use Rattle.run_laws.specs.Deeds.{deeds_in_lines, deeds_kept, words_kept}
 use Rattle.run_laws.specs.Lives.{IsLifeAt, Life}
 use Rattle.run_laws.specs.Sides.{Begins}
 use Rattle.run_report.specs.declared.calls.Call.{Call as Kept}
@@ -134,15 +136,19 @@ pub record AreRepliesTold (library s : ℕ) (before entries : List Entry) (poppe
   pub rest : List Notice
   pub are : replies_told library s entries ≡ replies_told library s before ++ (flat_map (reply_of s) popped ++ rest)
 
--- What a library's report says is so. Each send that was answered Sent is logged, and no other is, and each lease that was given back stands so. Of each lease
+-- What a library's report says is so. Each send that was answered Sent is logged, and no other is, and each lease that was given back stands so. Where no lease was
+-- before, what its calls did is all that the lines tell of it, in order; and each word by which a call found a lease lost is shown by them. Of each lease
 -- the messages that polls gave have the positions from that on which the journal's grant names, one behind another without a gap; and each reply and each
--- message that a poll gave is told.
+-- message that a poll gave is told, a message also below the end of what the library held by its lease.
 pub record IsBorneOut (before : ℕ → List Entry) (board : Board) (strays : List Stray) (report : LibReport) : Type 0 where
   pub sends : (s : ℕ) → s < length board.sessions → ArePostsLogged report.number (before s) (book_at board s) (posts_kept s report.calls)
   pub given_back : All (GivesBack board report.number) report.calls
+  pub deeds : (s : ℕ) → s < length board.sessions → lines_of (before s) ≡ [] → deeds_in_lines report.number (lines_of (book_at board s).entries) ≡ deeds_kept s report.calls
+  pub words : (s : ℕ) → s < length board.sessions → All (IsShown (lines_of (book_at board s).entries)) (words_kept s report.calls)
   pub reads : (s lease : ℕ) → 0 < lease → s < reading_count → s < length board.sessions → (positions_kept s lease report.calls ≡ [])
       ⊎ AreFromGrant (replies_told report.number s (book_at board s).entries) s lease (positions_kept s lease report.calls)
   pub told : All (HandsOn (IsTold board strays report.number)) report.calls
+  pub within : All (HandsOn (LiesWithin board report.number)) report.calls
 
 -- The requests that a library's calls made have the numbers 1, 2 and so on. The replies that it popped are those of its first requests, in order, by number and
 -- session, and at most the last request has none. It was told the replies of each session in the order in which its journal tells them.

@@ -53,9 +53,11 @@ use library_api::{
     requests_are_numbered,
 };
 use library_desk::laws::serving_happens;
-use library_laws::laws::{messages_are_in_order, requests_are_answered, sends_are_taken};
+use library_laws::laws::{
+    messages_are_in_order, messages_lie_within_holdings, requests_are_answered, sends_are_taken,
+};
 use switchboard::laws::{boards_go_on, boards_stay_ready};
-use text_laws::laws::texts_are_taken;
+use text_laws::laws::{logons_are_answered, texts_are_taken};
 
 /// Over a turn, each step of a script and all of them sessions and connections go on, what was pushed to a library
 /// and what was popped from it stays, the engine's seat stays at its table, and there are as many libraries.
@@ -92,7 +94,9 @@ pub fn engines_are_accounted_for()
     starts_are_accounted_for();
     turns_are_accounted_for();
     messages_are_in_order();
+    messages_lie_within_holdings();
     requests_are_answered();
+    logons_are_answered();
     texts_are_taken();
     sends_are_taken();
 }

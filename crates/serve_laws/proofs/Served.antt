@@ -219,6 +219,7 @@ module _ (laws : ServeLaws) (script : Script) (turns : ℕ) (wide : Bool) (Read 
           count = goes_on.sessions ∙ began.count;
           names = λ s small. (goes_on.same s).names ∙ ap (λ (book : Book). book.machine.names) (began.books s small);
           leases = λ s small. (goes_on.books s).leases ∙ ap (λ (book : Book). book.leases) (began.books s small);
+          dials = λ s small. (goes_on.same s).dials ∙ ap (λ (book : Book). book.machine.dials) (began.books s small);
         };
         libraries = ap length leaves.libraries ∙ length-map met.workers report_of ∙ many;
         reported = each_reported;

@@ -22,11 +22,12 @@ AnyReadings readings = Unit {0}
 abbrev pub life_of : Worker → Life
 life_of worker = record { number = worker.number; library = worker.library; calls = worker.report.calls }
 
--- the sessions are those that are configured, by their names and how many leases each can give
+-- the sessions are those that are configured, by their names, how many leases each can give, and whether it dials
 pub record AreSessionsOf (config : Config) (board : Board) : Type 0 where
   pub count : length board.sessions ≡ length config.names
   pub names : (s : ℕ) → s < length config.names → (book_at board s).machine.names ≡ names_of config s
   pub leases : (s : ℕ) → s < length config.names → (book_at board s).leases ≡ config.leases
+  pub dials : (s : ℕ) → s < length config.names → (book_at board s).machine.dials ≡ (first_machines config s).dials
 
 -- An engine has met the libraries: its seat and its ends of the rings know of them, and the rest is as it was.
 abbrev pub HasMet : Engine → Engine → Type 0

@@ -9,7 +9,7 @@ use Rattle.run_laws.proofs.Engines.{Laws, left_by, met, turn_made}
 use Rattle.run_laws.proofs.Starts.{by_machines, cursors_are, none_before, not_owned}
 use Rattle.run_laws.proofs.laws.engines_are_accounted_for.Goals as goal
 use Rattle.session_core.specs.State.{State}
-use Rattle.switchboard.specs.Ready.{IsReady}
+use Rattle.switchboard.specs.Ready.{IsReady, entries_of}
 use Rattle.switchboard.specs.Told.{machines_of}
 
 going : goal.After-sends_are_taken → GoingLaws
@@ -28,18 +28,24 @@ laws c before start = record {
   turn_account = c.turns_are_accounted_for.ensures.account before start;
   turn_answered = c.requests_are_answered.ensures.turn before;
   turn_fed = c.messages_are_in_order.ensures.turn;
+  turn_within = c.messages_lie_within_holdings.ensures.turn before;
   turn_taken = c.sends_are_taken.ensures.turn before;
+  turn_dialled = c.logons_are_answered.ensures.turn before;
   meets_answered = c.requests_are_answered.ensures.meets before;
   meets_fed = c.messages_are_in_order.ensures.meets;
+  meets_within = c.messages_lie_within_holdings.ensures.meets;
   meets_taken = c.sends_are_taken.ensures.meets before;
   gathers_account = c.sessions_are_accounted_for.ensures.gathers;
   itself = c.happenings_are_accounted_for.ensures.itself;
   further = c.happenings_are_accounted_for.ensures.further;
   gathers_answered = c.requests_are_answered.ensures.gathers before;
   gathers_fed = c.messages_are_in_order.ensures.gathers;
+  gathers_within = c.messages_lie_within_holdings.ensures.gathers;
   gathers_taken = c.sends_are_taken.ensures.gathers before;
+  gathers_dialled = c.logons_are_answered.ensures.gathers before;
   finishes = c.sends_are_taken.ensures.finishes before;
   text_gathers = c.texts_are_taken.ensures.gathers before;
+  text_answers = c.texts_are_taken.ensures.answers before;
   text_told = c.texts_are_taken.ensures.text before;
 }
 
@@ -53,7 +59,9 @@ returns-clause-first c = λ config moment shared engine starts.
           (subst (λ before. IsAccountedFor before (machines_of board) engine.moment board) none (c.starts_are_accounted_for.ensures.account config engine.moment board starts.sessions));
       answered = subst (λ before. AreAnswered before engine.sessions) none (c.requests_are_answered.ensures.first config moment shared engine.sessions starts.desk starts.ends);
       fed = c.messages_are_in_order.ensures.first config moment shared engine.sessions starts.desk starts.ends (cursors_are config moment shared engine starts) (not_owned config board starts.sessions);
+      within = c.messages_lie_within_holdings.ensures.first config shared engine.sessions starts.ends;
       taken = subst (λ before. AreTaken before engine.sessions.desk) none (c.sends_are_taken.ensures.first config moment shared engine.sessions starts.desk starts.table starts.sessions);
+      dialled = c.logons_are_answered.ensures.first (entries_of board) board starts.sessions.first;
     }
 
 pub returns-clause-turn : goal.returns-clause-turn
