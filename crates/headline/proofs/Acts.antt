@@ -42,7 +42,7 @@ pub record AccountLaws : Type 0 where
       → (connection_at board k).session ≡ None → (connection_at board k).cause ≡ None → good_bodies (accounted.brought k).pieces ≡ []
 
 -- the messages that were handled of a connection stand with it among what a session handled
-bodies_are : (handled : List Handled) (bound : Option ℕ) (number : ℕ) (bodies : List (List ℕ)) → AllPairs (λ one later. one.connection ≢ later.connection) handled → HasHandled bound number bodies handled
+pub bodies_are : (handled : List Handled) (bound : Option ℕ) (number : ℕ) (bodies : List (List ℕ)) → AllPairs (λ one later. one.connection ≢ later.connection) handled → HasHandled bound number bodies handled
     → (i : ℕ) (d : Handled) → i < length handled → (get_or handled i d).connection ≡ number → (get_or handled i d).bodies ≡ bodies
 bodies_are handled bound number bodies apart has i d within same =
     let there : length has.past < length handled = subst (λ all. length has.past < length all) (sym has.are) (middle_within has.past has.later (handled_of number bodies)) in
@@ -91,10 +91,10 @@ module _ (config : Config) (board : Board) (strays : List Stray) (accepted diall
       })
 
   -- what a session handled
-  abbrev handled_at : ℕ → List Handled
+  abbrev pub handled_at : ℕ → List Handled
   handled_at s = account.history.handled s
 
-  one_handled : (s i : ℕ) (d : Handled) → i < length (handled_at s) → IsHandledOf left s (get_or (handled_at s) i d)
+  pub one_handled : (s i : ℕ) (d : Handled) → i < length (handled_at s) → IsHandledOf left s (get_or (handled_at s) i d)
   one_handled s i d within =
       let of = (account.connections s).each i d within in
       let there = connection_there board strays accepted dialled added left is_left order of.place of.within in
@@ -112,13 +112,13 @@ module _ (config : Config) (board : Board) (strays : List Stray) (accepted diall
         good = bodies_are (handled_at s) _ _ _ (account.connections s).once named i d within (sym of.number_is);
       }
 
-  all_handled : (s : ℕ) → EachConnection left (λ place c. c.session ≡ Some s → Contains (map (λ h. h.connection) (handled_at s)) (number_at left place))
+  pub all_handled : (s : ℕ) → EachConnection left (λ place c. c.session ≡ Some s → Contains (map (λ h. h.connection) (handled_at s)) (number_at left place))
   all_handled s place c found names =
       let one = connection_found board strays accepted dialled added left is_left order place c found in
       let named : (connection_at board one.k).session ≡ Some s = sym (ap (λ (x : ConnRecord). x.session) one.is) ∙ names in
       subst (Contains (map (λ h. h.connection) (handled_at s))) one.number (handled_has (handled_at s) _ _ _ (laws.named no_entries (first_machines config) at board account one.k s one.within named))
 
-  session_tells : (s : ℕ) → s < length board.sessions → TellsItsActs config left s (left_of (session_at board s))
+  abbrev pub session_tells : (s : ℕ) → s < length board.sessions → TellsItsActs config left s (left_of (session_at board s))
   session_tells s within =
       let timed = account.told.runs s within in
       let run = timed.run in

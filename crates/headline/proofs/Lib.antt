@@ -9,9 +9,13 @@ mod Driven
 mod Found
 mod Journals
 mod Acts
+mod Logons
 mod Bound
 mod Texts
+mod Deeds
+mod Within
 mod Libraries
 mod Refuted
+mod RefutedDeeds
 mod MeetsHeadline
 mod Finished

@@ -11,10 +11,14 @@ use Rattle.engine_config.specs.declared.config.Config.{Config}
 use Rattle.engine_end.specs.Records.{SessionLeft, left_of}
 use Rattle.engine_loop.specs.declared.engine.Engine.{Engine}
 use Rattle.gate_io.specs.Wire.{Link}
+use Rattle.headline.proofs.Deeds.{told_as_called}
 use Rattle.headline.proofs.Found.{session_count, session_found, session_there}
 use Rattle.headline.proofs.Lists.{past_end, there_is}
-use Rattle.headline.specs.Headline.{EachLibrary, GivesBack, HasSession, IsRepliedTo, IsReplyTold, IsSent, IsStray, IsTold, ReadsPrefixes, sends_of}
-use Rattle.lease_core.specs.Lines.{lines_of}
+use Rattle.headline.proofs.Within.{lies_in}
+use Rattle.headline.specs.Headline.{EachLibrary, EachSession, GivesBack, HasSession, IsLawfulRun, IsRepliedTo, IsReplyTold, IsSent, IsStray, IsTold, ReadsPrefixes, sends_of, sessions_of}
+use Rattle.headline.specs.Within.{IsWithinHolding}
+use Rattle.lease_core.specs.Laws.{LibraryDeedsAreTold}
+use Rattle.lease_core.specs.Lines.{IsShown, lines_of}
 use Rattle.lease_core.specs.declared.entry.Entry.{Entry}
 use Rattle.lease_core.specs.declared.entry.Why.TheVariants.{UnknownSession}
 use Rattle.lease_core.specs.declared.messages.Notice.{Notice}
@@ -32,7 +36,9 @@ use Rattle.library_desk.specs.declared.desk.LibraryDesk.{LibraryDesk}
 use Rattle.library_desk.specs.declared.desk.Stray.{Stray}
 use Rattle.library_laws.specs.Replies.{Ask, IsAnswered, answered_by, replies_told, reply_of, stray_reply, stray_told}
 use Rattle.library_laws.specs.Sends.{logged_bodies}
+use Rattle.library_laws.specs.Spans.{LiesWithin}
 use Rattle.run_laws.specs.Accounted.{LeavesAccounted, first_machines, no_entries}
+use Rattle.run_laws.specs.Deeds.{deeds_in_lines, deeds_kept, words_kept}
 use Rattle.run_laws.specs.Lives.{AreKept, HasLived, IsReportedAs, Life}
 use Rattle.run_laws.specs.Reports.{AreFromGrant, GivesBack as GivesBackOn, HandsOn, IsBorneOut, IsGivenBack, IsReported, IsTold as IsToldOn, OnNotice, asks_kept, positions_kept, posts_kept}
 use Rattle.run_laws.specs.Sides.{Begins}
@@ -101,9 +107,15 @@ among {A} {B} f (z ∷ zs) x y one (zero, within, is) =
     Contains-append_left (f z) (flat_map f zs) y (subst (λ (ys : List B). Contains ys y) (sym (ap f is ∙ one)) (0, omega arith, refl))
 among f (z ∷ zs) x y one (suc n, within, is) = Contains-append_right (f z) (flat_map f zs) y (among f zs x y one (n, omega arith, is))
 
+-- as a run begins no journal has a line
+no_lines : lines_of [] ≡ []
+unfolding state_of
+no_lines = refl
+
 -- what the laws of libraries say
 pub record LibraryLaws : Type 0 where
   pub pops : PollsPop
+  pub lines_tell : LibraryDeedsAreTold
   pub handed : (k : Known) (made : List Call) (kept : List Kept) → AreKept IsReportedAs k made kept → All (HandsOn (Contains (notices_of k made))) kept
 
 -- what is reported of each library of a record is what it did, and is borne out
@@ -148,8 +160,8 @@ module _ (config : Config) (engine : Engine) (links : ℕ → Link) (seats : Lis
     | inr past ↦ absurd (none_past s pos bytes past is)
   ]
 
-  reads_prefixes : (report : LibReport) → IsBorneOut no_entries board strays report → ReadsPrefixes left report
-  reads_prefixes report borne = record {
+  reads_prefixes : EachSession left (λ s session. IsLawfulRun session) → (report : LibReport) → IsBorneOut no_entries board strays report → ReadsPrefixes left report
+  reads_prefixes runs report borne = record {
     reads = λ s session has lease some.
         let one = found s session has in
         let small = one.0 in
@@ -160,6 +172,9 @@ module _ (config : Config) (engine : Engine) (links : ℕ → Link) (seats : Lis
         ];
     told = All-weaker (HandsOn (IsToldOn board strays report.number)) (HandsOn (IsTold left report.number))
         (λ call is. handed_on (IsToldOn board strays report.number) (IsTold left report.number) (told_in report.number) call is) report.calls borne.told;
+    within = All-weaker (HandsOn (LiesWithin board report.number)) (HandsOn (IsWithinHolding (sessions_of left) report.number))
+        (λ call is. handed_on (LiesWithin board report.number) (IsWithinHolding (sessions_of left) report.number)
+        (lies_in board strays engine.accepted left.engine.added left leaves.leaves runs report.number) call is) report.calls borne.within;
   }
 
   given_back : (library : ℕ) (call : Kept) → GivesBackOn board library call → GivesBack left library call
@@ -174,21 +189,31 @@ module _ (config : Config) (engine : Engine) (links : ℕ → Link) (seats : Lis
   given_back library (calls.Request s from answer) is = tt
   given_back library calls.Beat is = tt
 
-  all_sent : (report : LibReport) → IsBorneOut no_entries board strays report → IsSent left report
-  all_sent report borne = record {
+  bodies_sent : (report : LibReport) → IsBorneOut no_entries board strays report → EachSession left (λ s session. logged_bodies (sends_of report.number session) ≡ map (λ post. post.body) (posts_kept s report.calls))
+  bodies_sent report borne s session has =
+      let one = found s session has in
+      let posts = borne.sends s one.0 in
+      let sent = posts.sends_are in
+      subst (λ (x : SessionLeft). logged_bodies (sends_of report.number x) ≡ map (λ post. post.body) (posts_kept s report.calls)) (sym one.1)
+      (ap (λ (es : List Entry). logged_bodies (flat_map (sent_at report.number (book_at board s).outbound) (placed_from (state_of []) es))) sent.entries_are ∙ ap logged_bodies sent.sends_are ∙ posts.bodies)
+
+  all_sent : EachSession left (λ s session. IsLawfulRun session) → (report : LibReport) → IsBorneOut no_entries board strays report → IsSent left report
+  all_sent lawful report borne = record {
     logged = λ s session has.
         let one = found s session has in
         let posts = borne.sends s one.0 in
         let sent = posts.sends_are in
         subst (λ (x : SessionLeft). All (HasSend x.outbound) (placed_from (state_of []) x.entries)) (sym one.1)
         (subst (λ (es : List Entry). All (HasSend (book_at board s).outbound) (placed_from (state_of []) es)) (sym sent.entries_are) sent.logged);
-    bodies = λ s session has.
-        let one = found s session has in
-        let posts = borne.sends s one.0 in
-        let sent = posts.sends_are in
-        subst (λ (x : SessionLeft). logged_bodies (sends_of report.number x) ≡ map (λ post. post.body) (posts_kept s report.calls)) (sym one.1)
-        (ap (λ (es : List Entry). logged_bodies (flat_map (sent_at report.number (book_at board s).outbound) (placed_from (state_of []) es))) sent.entries_are ∙ ap logged_bodies sent.sends_are ∙ posts.bodies);
+    bodies = bodies_sent report borne;
     given_back = All-weaker (GivesBackOn board report.number) (GivesBack left report.number) (given_back report.number) report.calls borne.given_back;
+    deeds = λ s session has.
+        let one = found s session has in
+        told_as_called laws.lines_tell report.number s session report.calls (lawful s session has).run
+        (subst (λ (x : SessionLeft). deeds_in_lines report.number (lines_of x.entries) ≡ deeds_kept s report.calls) (sym one.1) (borne.deeds s one.0 no_lines)) (bodies_sent report borne s session has);
+    lost = λ s session has.
+        let one = found s session has in
+        subst (λ (x : SessionLeft). All (IsShown (lines_of x.entries)) (words_kept s report.calls)) (sym one.1) (borne.words s one.0);
   }
 
   -- what a library popped
@@ -238,11 +263,11 @@ module _ (config : Config) (engine : Engine) (links : ℕ → Link) (seats : Lis
   each : (P : LibReport → Type 0) → ((place : ℕ) (report : LibReport) → IsReported config.asks no_entries board engine.sessions place report → P report) → EachLibrary left P
   each P holds place report at = (let of = reported place report at in (of.number ∙ of.is.number, holds place report of))
 
-  pub prefix_reads : EachLibrary left (λ report. ReadsPrefixes left report)
-  prefix_reads = each (ReadsPrefixes left) (λ place report of. reads_prefixes report of.borne_out)
+  pub prefix_reads : EachSession left (λ s session. IsLawfulRun session) → EachLibrary left (λ report. ReadsPrefixes left report)
+  prefix_reads runs = each (ReadsPrefixes left) (λ place report of. reads_prefixes runs report of.borne_out)
 
-  pub every_send : EachLibrary left (λ report. IsSent left report)
-  every_send = each (IsSent left) (λ place report of. all_sent report of.borne_out)
+  pub every_send : EachSession left (λ s session. IsLawfulRun session) → EachLibrary left (λ report. IsSent left report)
+  every_send lawful = each (IsSent left) (λ place report of. all_sent lawful report of.borne_out)
 
   pub every_reply : EachLibrary left (λ report. IsRepliedTo left report)
   every_reply = each (IsRepliedTo left) life_replied

@@ -6,11 +6,12 @@ use Rattle.engine_config.specs.declared.config.Config.{Config}
 use Rattle.engine_end.specs.Records.{HasLawfulJournal, SessionLeft}
 use Rattle.engine_loop.specs.declared.engine.Engine.{Engine}
 use Rattle.gate_io.specs.Wire.{Link}
-use Rattle.headline.proofs.Acts.{AccountLaws, cut_up, tells_its_acts}
+use Rattle.headline.proofs.Acts.{AccountLaws, cut_up}
 use Rattle.headline.proofs.Bound.{bound_to_standing, bound_while_standing}
 use Rattle.headline.proofs.Found.{numbered, session_count, session_found}
 use Rattle.headline.proofs.Journals.{holdings_adjoin, lawful_runs, logs_told, one_owners}
 use Rattle.headline.proofs.Libraries.{AllReported, LibraryLaws, every_reply, every_send, prefix_reads, strays_are}
+use Rattle.headline.proofs.Logons.{AreMachinesOf, acts_and_logons}
 use Rattle.headline.proofs.Texts.{took_its_text}
 use Rattle.headline.specs.Ends.{AllEndedWhole}
 use Rattle.headline.specs.Headline.{Headline}
@@ -35,6 +36,7 @@ pub record AreConfiguredSessions (config : Config) (board : Board) : Type 0 wher
   pub count : length board.sessions ≡ length config.names
   pub names : (s : ℕ) → s < length board.sessions → (book_at board s).machine.names ≡ names_of config s
   pub leases : (s : ℕ) → s < length board.sessions → (book_at board s).leases ≡ config.leases
+  pub dials : (s : ℕ) → s < length board.sessions → (book_at board s).machine.dials ≡ (first_machines config s).dials
 
 module _ (config : Config) (engine : Engine) (links : ℕ → Link) (seats : List LibraryView) (reports : List LibReport) (left : RunRecord)
     (leaves : LeavesAccounted no_entries (first_machines config) engine links seats reports left) where
@@ -60,6 +62,8 @@ module _ (config : Config) (engine : Engine) (links : ℕ → Link) (seats : Lis
       let ready = leaves.accounted.ready in
       let account = leaves.accounted.account in
       let few : length board.sessions ≤ reading_count = (let most = end.fits.sessions in let count = end.sessions.count in omega arith) in
+      let machines : AreMachinesOf config board = record { names = end.sessions.names; dials = end.sessions.dials } in
+      let told = acts_and_logons config board strays accepted dialled added left is_left order laws.accounts at account end.ended ready links leaves.accounted.dialled leaves.answers machines in
       record {
         configured = record {
           count = session_count board strays accepted added left is_left ∙ end.sessions.count;
@@ -76,13 +80,14 @@ module _ (config : Config) (engine : Engine) (links : ℕ → Link) (seats : Lis
         one_owner = one_owners left end.journals laws.one_owner;
         logs_told = logs_told left end.journals board strays accepted added is_left (λ s small. (ready.books s small).is_book);
         adjoining_holdings = holdings_adjoin left end.journals board strays accepted added is_left (λ s small. (ready.books s small).is_book) laws.holdings;
-        acts = tells_its_acts config board strays accepted dialled added left is_left order laws.accounts at account end.ended;
+        acts = λ s session has. (told s session has).0;
+        logons = λ s session has. (told s session has).1;
         garbled = cut_up config board strays accepted dialled added left is_left order laws.accounts at account end.ended;
         bound = bound_to_standing board strays accepted dialled added left is_left order ready.sound;
         standing = bound_while_standing board strays accepted dialled added left is_left order ready.sound;
         outbound_text = took_its_text board strays accepted dialled added left is_left order ready links leaves.texts;
-        prefix_reads = prefix_reads config engine links seats reports left leaves end.reported few laws.libraries;
+        prefix_reads = prefix_reads config engine links seats reports left leaves end.reported few laws.libraries (lawful_runs left end.journals);
         every_reply = every_reply config engine links seats reports left leaves end.reported few laws.libraries;
-        every_send = every_send config engine links seats reports left leaves end.reported few laws.libraries;
+        every_send = every_send config engine links seats reports left leaves end.reported few laws.libraries (lawful_runs left end.journals);
         strays = strays_are config engine links seats reports left leaves end.reported few laws.libraries;
       }

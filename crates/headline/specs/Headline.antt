@@ -12,7 +12,10 @@ use Rattle.fix_frame.specs.Cut.{CutPiece, cut}
 use Rattle.fix_frame.specs.declared.layout.TheConstants.{LONGEST_FRAME}
 use Rattle.gate_io.specs.Wire.{Link}
 use Rattle.gate_io.specs.declared.wires.TheConstants.{FIRST_DIALLED}
+use Rattle.headline.specs.Deeds.{DidAsAnswered, LostAsShown}
+use Rattle.headline.specs.Dialled.{LogsOn}
 use Rattle.headline.specs.Ends.{StandsOrEndedFromOutside}
+use Rattle.headline.specs.Within.{IsWithinHolding}
 use Rattle.lease_core.specs.Holdings.{AreAdjoining, holdings_of}
 use Rattle.lease_core.specs.Laws.{OnlyLastRuns}
 use Rattle.lease_core.specs.Lines.{lines_of}
@@ -189,6 +192,12 @@ pub record TookItsText (left : RunRecord) (links : ℕ → Link) (place : ℕ) (
   pub named : (s : ℕ) → c.session ≡ Some s → (session : SessionLeft) × (HasSession left s session × TookText left links place c session)
   pub unnamed : c.session ≡ None → c.written ≡ []
 
+-- Logons of dialled connections. A session logs on by each connection that it dialled.
+abbrev pub LogsOnByIt : Config → (ℕ → Link) → RunRecord → ℕ → SessionLeft → Handled → Type 0
+LogsOnByIt config links left s session h =
+    (has : HasConnection left s h.connection) → left.engine.accepted ≤ has.place
+    → LogsOn (first_machines config s) (spells_behind [] session.entries) (text_in session) (first_in session) h has.c (IsCutOff (links h.connection) has.c)
+
 -- A reply of session s to a library is told by that session's journal; and that of a session which isn't configured by a stray.
 pub record IsReplyTold (left : RunRecord) (library s : ℕ) (reply : Notice) : Type 0 where
   pub journal : (session : SessionLeft) → HasSession left s session → Contains (replies_told library s session.entries) reply
@@ -201,11 +210,12 @@ IsTold left library (notices.Refused nr s why) = IsReplyTold left library s (not
 IsTold left library (notices.Message s lease pos bytes) = (session : SessionLeft) × (HasSession left s session × (slice_get session.inbound pos ≡ Some bytes))
 
 -- Prefix reads. Of each lease of each session the messages that a library's polls gave have the positions from that on which the journal's grant names, one
--- behind another without a gap; and all that polls handed on is told.
+-- behind another without a gap, and each lies below the end of what the library held by the lease; and all that polls handed on is told.
 pub record ReadsPrefixes (left : RunRecord) (report : LibReport) : Type 0 where
   pub reads : EachSession left (λ s session. (lease : ℕ) → 0 < lease → (positions_kept s lease report.calls ≡ [])
       ⊎ AreFromGrant (replies_told report.number s session.entries) s lease (positions_kept s lease report.calls))
   pub told : All (HandsOn (IsTold left report.number)) report.calls
+  pub within : All (HandsOn (IsWithinHolding (sessions_of left) report.number)) report.calls
 
 -- Every reply. The requests of a library that got a number have 1, 2 and so on. It heard these notices, among which is all that its polls handed on. The replies
 -- among them are to its first requests, each once and in order, by number and session, and at most the last request has none. Those of each session are the
@@ -238,11 +248,15 @@ GivesBack left library (calls.Request s from answer) = Unit {0}
 GivesBack left library calls.Beat = Unit {0}
 
 -- Every send. What the outbound log of a session has for the sends of a library are the bodies of its calls that were answered Sent, each once and in order,
--- and no others; and each lease that it gave back stands so in the journal, with as many sends.
+-- and no others; and each lease that it gave back stands so in the journal, with as many sends. The sends and releases of the journal that are this library's are,
+-- in order and each once, its calls that were answered Sent and Released, with the same lease, ordinal, body, count and heir; so a send that was answered Lost has
+-- no entry. The word by which a call found a lease lost is shown by the journal.
 pub record IsSent (left : RunRecord) (report : LibReport) : Type 0 where
   pub logged : EachSession left (λ s session. All (HasSend session.outbound) (placed_from (state_of []) session.entries))
   pub bodies : EachSession left (λ s session. logged_bodies (sends_of report.number session) ≡ map (λ post. post.body) (posts_kept s report.calls))
   pub given_back : All (GivesBack left report.number) report.calls
+  pub deeds : EachSession left (DidAsAnswered report)
+  pub lost : EachSession left (LostAsShown report)
 
 -- Strays. A stray of a library of the record is for a session that isn't configured.
 pub record IsStray (left : RunRecord) (stray : Stray) : Type 0 where
@@ -257,6 +271,7 @@ pub record Headline (config : Config) (links : ℕ → Link) (left : RunRecord) 
   pub logs_told : EachSession left (λ s session. HasLogsTold session)
   pub adjoining_holdings : EachSession left (λ s session. HoldingsAdjoin session)
   pub acts : EachSession left (λ s session. TellsItsActs config left s session)
+  pub logons : (s : ℕ) (session : SessionLeft) (has : HasSession left s session) → All (LogsOnByIt config links left s session) (acts s session has).handled
   pub garbled : EachConnection left (λ place c. IsCutUp c)
   pub bound : EachSession left (λ s session. IsBoundToStanding left s session)
   pub standing : EachConnection left (λ place c. IsBoundWhileStanding left place c)

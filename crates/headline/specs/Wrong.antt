@@ -1,19 +1,22 @@
 -- Wrong records: each of these families is of records that are wrong in one way, whatever else they have.
-use Rattle.std.specs.Prelude.{◌≡◌, ℕ, ◌<◌, true, List, [], ◌∷◌, codes, length, slice_get, None, Some, Ok}
+use Rattle.std.specs.Prelude.{◌≡◌, ℕ, ◌<◌, true, List, [], ◌∷◌, ◌++◌, codes, length, slice_get, None, Some, Err, Ok}
 use Rattle.connection_core.specs.declared.records.ConnRecord.{ConnRecord}
 use Rattle.engine_config.specs.declared.config.Config.{Config}
 use Rattle.engine_end.specs.Records.{SessionLeft}
 use Rattle.gate_io.specs.Wire.{Link}
-use Rattle.headline.specs.Headline.{HasSession, Headline}
+use Rattle.headline.specs.Headline.{HasSession, Headline, first_in}
 use Rattle.lease_core.specs.declared.entry.Entry.{Entry}
-use Rattle.lease_core.specs.declared.entry.Entry.TheVariants.{Admin, Bind, Granted, Leave, Send, Timeout}
+use Rattle.lease_core.specs.declared.entry.Entry.TheVariants.{Admin, Arrive, Bind, Granted, Leave, Release, Send, Timeout}
 use Rattle.lease_core.specs.declared.entry.Why.TheVariants.{LeasesSpent}
+use Rattle.lease_core.specs.declared.word.Standing.TheVariants.{Active}
 use Rattle.library_api.specs.declared.event.Event.TheVariants as events
+use Rattle.library_api.specs.declared.refusal.SendRefusal.TheVariants.{Lost}
 use Rattle.message_log.specs.declared.entry.OutEntry.{OutEntry}
 use Rattle.run_report.specs.declared.calls.Call.{Call}
 use Rattle.run_report.specs.declared.calls.Call.TheVariants as calls
 use Rattle.run_report.specs.declared.records.LibReport.{LibReport}
 use Rattle.run_report.specs.declared.records.RunRecord.{RunRecord}
+use Rattle.session_book.specs.Spells.{Spell, spells_behind}
 
 -- the headline holds of no record of which this is so
 abbrev pub IsRefuted : (RunRecord → Type 0) → Type 0
@@ -77,6 +80,21 @@ pub record WritesWhatIsNotTold (left : RunRecord) : Type 0 where
   pub session : HasSession left 0 (session_with (Bind 0 ∷ []) [] no_message)
   pub connection : slice_get left.engine.connections 0 ≡ Some (connection_with (codes "8=FIX.4.4"))
 
+-- A dialled connection on which no answer came took more than the first item of the text that its session's journal tells.
+pub record TakesMoreThanItsLogon (left : RunRecord) : Type 0 where
+  pub session : SessionLeft
+  pub has : HasSession left 0 session
+  pub accepted : left.engine.accepted ≡ 0
+  pub c : ConnRecord
+  pub at : slice_get left.engine.connections 0 ≡ Some c
+  pub names : c.session ≡ Some 0
+  pub nothing_came : c.taken ≡ []
+  pub spell : Spell
+  pub spells : spells_behind [] session.entries ≡ spell ∷ []
+  pub byte : ℕ
+  pub more : List ℕ
+  pub took : c.written ≡ first_in session spell ++ byte ∷ more
+
 -- A connection stands and names a session whose journal has left it.
 pub record StandsWhereItWasLeft (left : RunRecord) : Type 0 where
   pub session : HasSession left 0 (session_with (Bind 0 ∷ Leave 0 ∷ []) [] no_message)
@@ -110,10 +128,30 @@ pub record ReadsElsewhere (left : RunRecord) : Type 0 where
   pub session : HasSession left 0 (session_with (Granted 1 1 1 0 0 ∷ []) [] no_message)
   pub reports : Reports left (calls.Poll (events.Message 0 1 5 (codes "35=D")) ∷ [])
 
+-- A library reads a message of a lease that came once the lease had ended: its position is the end of what the library held.
+pub record ReadsPastEnd (left : RunRecord) : Type 0 where
+  pub session : HasSession left 0 (session_with (Granted 1 1 1 0 0 ∷ Release 1 1 0 0 ∷ Bind 0 ∷ Admin 1 ∷ Arrive 0 ∷ []) (codes "35=D" ∷ []) one_message)
+  pub reports : Reports left (calls.Poll (events.Message 0 1 0 (codes "35=D")) ∷ [])
+
 -- A library gave a lease back that the journal has as running.
 pub record GivesBackWhatRuns (left : RunRecord) : Type 0 where
   pub session : HasSession left 0 (session_with (Granted 1 1 1 0 0 ∷ []) [] no_message)
   pub reports : Reports left (calls.Release 0 (Ok (record { lease = 1; count = 0 })) ∷ [])
+
+-- A send that a library reports the journal has of its next lease.
+pub record SendsByAnotherLease (left : RunRecord) : Type 0 where
+  pub session : HasSession left 0 (session_with (Granted 1 1 1 0 0 ∷ Timeout 1 1 0 ∷ Granted 1 2 2 0 0 ∷ Send 2 1 1 1 ∷ []) [] one_message)
+  pub reports : Reports left (calls.Send 0 (codes "35=0") (Ok (record { lease = 1; ordinal = 1 })) ∷ [])
+
+-- The journal has that a library gave a lease back, of which the library reports no call.
+pub record GivesBackByItself (left : RunRecord) : Type 0 where
+  pub session : HasSession left 0 (session_with (Granted 1 1 1 0 0 ∷ Release 1 1 0 0 ∷ []) [] no_message)
+  pub reports : Reports left []
+
+-- A send was answered Lost by the word of another library's lease, and the journal has none of it.
+pub record LosesByNoWord (left : RunRecord) : Type 0 where
+  pub session : HasSession left 0 (session_with (Granted 1 1 1 0 0 ∷ []) [] no_message)
+  pub reports : Reports left (calls.Send 0 (codes "35=0") (Err (Lost (record { lease = 2; owner = 2; standing = Active; count = 0 }))) ∷ [])
 
 -- A session that is configured has a stray.
 pub record StraysAtHome (left : RunRecord) : Type 0 where

@@ -12,7 +12,7 @@ ghost use Rattle.headline.specs.Ends.{AllEndedWhole};
 ghost use Rattle.headline.specs.Finished.{IsFinished};
 ghost use Rattle.headline.specs.Headline.{Headline};
 ghost use Rattle.headline.specs.Numbering.{AreInOrder, IsInOrder};
-ghost use Rattle.headline.specs.Wrong.{AnswersUnbound, BindsNone, BindsOneTwice, BindsTwoAtOnce, CountsWhatNeverCame, GivesBackWhatRuns, HasTwoOwners, IsRefuted, IsRepliedToTwice, LogsNoArrival, LogsNoNumber, ReadsElsewhere, SendsForAnother, ShareOneConnection, SkipsNumbers, StandsWhereItWasLeft, StraysAtHome, TakesBackFromNobody, WritesWhatIsNotTold};
+ghost use Rattle.headline.specs.Wrong.{AnswersUnbound, BindsNone, BindsOneTwice, BindsTwoAtOnce, CountsWhatNeverCame, GivesBackByItself, GivesBackWhatRuns, HasTwoOwners, IsRefuted, IsRepliedToTwice, LogsNoArrival, LogsNoNumber, LosesByNoWord, ReadsElsewhere, SendsByAnotherLease, ReadsPastEnd, SendsForAnother, ShareOneConnection, SkipsNumbers, StandsWhereItWasLeft, StraysAtHome, TakesBackFromNobody, TakesMoreThanItsLogon, WritesWhatIsNotTold};
 ghost use Rattle.lease_core.specs.declared.entry.Entry.{Entry};
 ghost use Rattle.lease_desk.specs.declared.desk.LeaseDesk.{LeaseDesk};
 ghost use Rattle.library_desk.specs.declared.shared.Shared.{Shared};
@@ -31,7 +31,7 @@ use engine_laws::laws::{
     accounts_are_whole, happenings_are_accounted_for, lines_are_accounted_for,
     sessions_are_accounted_for, steps_are_accounted_for,
 };
-use lease_core::laws::{holdings_adjoin, one_owner_at_a_time};
+use lease_core::laws::{holdings_adjoin, lines_tell_deeds, one_owner_at_a_time};
 use library_api::replies_close_requests;
 use library_desk::laws::serving_happens;
 use run_laws::laws::{
@@ -95,6 +95,7 @@ pub fn served_headlines_hold()
     serving_happens();
     holdings_adjoin();
     one_owner_at_a_time();
+    lines_tell_deeds();
     replies_close_requests();
     kept_calls_tell();
     engines_are_accounted_for();
@@ -116,6 +117,7 @@ pub fn headlines_hold()
     sessions_are_accounted_for();
     holdings_adjoin();
     one_owner_at_a_time();
+    lines_tell_deeds();
     replies_close_requests();
     kept_calls_tell();
     libraries_live();
@@ -138,12 +140,17 @@ pub fn wrong_records_are_refuted()
     ensures one_shared { IsRefuted ShareOneConnection }
     ensures not_there { IsRefuted BindsNone }
     ensures not_told { IsRefuted WritesWhatIsNotTold }
+    ensures more_than_logon { IsRefuted TakesMoreThanItsLogon }
     ensures left_standing { IsRefuted StandsWhereItWasLeft }
     ensures never_came { IsRefuted CountsWhatNeverCame }
     ensures twice { IsRefuted IsRepliedToTwice }
     ensures skipped { IsRefuted SkipsNumbers }
     ensures for_another { IsRefuted SendsForAnother }
     ensures elsewhere { IsRefuted ReadsElsewhere }
+    ensures past_end { IsRefuted ReadsPastEnd }
     ensures runs_on { IsRefuted GivesBackWhatRuns }
+    ensures other_lease { IsRefuted SendsByAnotherLease }
+    ensures by_itself { IsRefuted GivesBackByItself }
+    ensures not_shown { IsRefuted LosesByNoWord }
     ensures at_home { IsRefuted StraysAtHome }
 {}

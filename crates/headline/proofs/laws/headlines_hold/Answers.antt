@@ -19,7 +19,7 @@ laws c = record {
   };
   one_owner = c.one_owner_at_a_time.ensures;
   holdings = c.holdings_adjoin.ensures;
-  libraries = record { pops = c.replies_close_requests.ensures.popped; handed = c.kept_calls_tell.ensures.notices };
+  libraries = record { pops = c.replies_close_requests.ensures.popped; lines_tell = c.lines_tell_deeds.ensures.library; handed = c.kept_calls_tell.ensures.notices };
 }
 
 pub returns : goal.returns
@@ -53,6 +53,7 @@ returns c = λ script left means fits journals.
         count = sessions;
         names = λ s small. (goes_on.same s).names ∙ ap (λ (book : Book). book.machine.names) (books s small);
         leases = λ s small. (goes_on.books s).leases ∙ ap (λ (book : Book). book.leases) (books s small);
+        dials = λ s small. (goes_on.same s).dials ∙ ap (λ (book : Book). book.machine.dials) (books s small);
       };
       libraries = ap length leaves.libraries ∙ length-map last.callers.items report_of ∙ goes.libraries ∙ (means.starts.callers.count ∙ starts.table.rings.commands);
       order = subst (λ n. AreInOrder n last.wire.dialled board.connections) (sym in_order.counted)

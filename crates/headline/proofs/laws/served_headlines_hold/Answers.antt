@@ -40,7 +40,7 @@ laws c = record {
   };
   one_owner = c.one_owner_at_a_time.ensures;
   holdings = c.holdings_adjoin.ensures;
-  libraries = record { pops = c.replies_close_requests.ensures.popped; handed = c.kept_calls_tell.ensures.notices };
+  libraries = record { pops = c.replies_close_requests.ensures.popped; lines_tell = c.lines_tell_deeds.ensures.library; handed = c.kept_calls_tell.ensures.notices };
 }
 
 ends : goal.After-served_scripts_are_accounted_for → (before : ℕ → List Entry) (start : ℕ → State) → EndLaws before start
@@ -117,6 +117,7 @@ module _ (c : goal.After-served_scripts_are_accounted_for) (script : Script) (tu
           count = is.sessions.count;
           names = λ s small. is.sessions.names s (subst (λ n. s < n) is.sessions.count small);
           leases = λ s small. is.sessions.leases s (subst (λ n. s < n) is.sessions.count small);
+          dials = λ s small. is.sessions.dials s (subst (λ n. s < n) is.sessions.count small);
         };
         libraries = is.libraries;
         order = order;

@@ -1,4 +1,5 @@
-use Rattle.headline.proofs.Refuted.{answers_unbound, at_home, back_from_nobody, elsewhere, for_another, left_standing, never_came, no_arrival, no_number, not_there, not_told, one_shared, one_twice, runs_on, skipped, twice, two_at_once, two_owners}
+use Rattle.headline.proofs.Refuted.{answers_unbound, at_home, back_from_nobody, elsewhere, for_another, left_standing, more_than_logon, never_came, no_arrival, no_number, not_there, not_told, one_shared, one_twice, past_end, runs_on, skipped, twice, two_at_once, two_owners}
+use Rattle.headline.proofs.RefutedDeeds.{by_itself, not_shown, other_lease}
 use Rattle.headline.proofs.laws.wrong_records_are_refuted.Goals as goal
 
 pub returns : goal.returns
@@ -13,12 +14,17 @@ returns c = record {
   one_shared = one_shared;
   not_there = not_there;
   not_told = not_told;
+  more_than_logon = more_than_logon;
   left_standing = left_standing;
   never_came = never_came;
   twice = twice;
   skipped = skipped;
   for_another = for_another;
   elsewhere = elsewhere;
+  past_end = past_end;
   runs_on = runs_on;
+  other_lease = other_lease;
+  by_itself = by_itself;
+  not_shown = not_shown;
   at_home = at_home;
 }
