@@ -1,3 +1,4 @@
+mod Adjoining
 mod Ending
 mod Served
 mod TooLong

@@ -1,12 +1,14 @@
 -- What serving leaves, by how the writing of its report ended and whose turns were spent.
-use Rattle.std.proofs.Common.{◌≡◌, ℕ, Bool, List, Option, None, Some, refl, subst, ◌∙◌}
+use Rattle.std.proofs.Common.{◌≡◌, ℕ, Bool, List, [], Option, None, Some, refl, subst, ◌∙◌}
 use Rattle.std.specs.List.{All}
 use Rattle.command_words.specs.declared.words.Chosen.{Chosen}
 use Rattle.command_words.specs.declared.words.Chosen.TheVariants as chosen
 use Rattle.engine_end.specs.Records.{HasLawfulJournal}
 use Rattle.gate_io.specs.Wire.{Door, Link}
+use Rattle.gate_io.specs.declared.wires.Listened.{Listened}
+use Rattle.gate_io.specs.declared.wires.Listened.TheVariants.{Ready}
 use Rattle.gateway_run.specs.Outcome.{Writes}
-use Rattle.gateway_run.specs.Served.{EndsServing, IsServed, ServesSo, WireServes, with_spent}
+use Rattle.gateway_run.specs.Served.{Anyhow, EndsServing, IsServed, ListensAt, ServesSo, WireServes, with_spent}
 use Rattle.gateway_run.specs.declared.statuses.Status.{Status}
 use Rattle.gateway_run.specs.declared.statuses.Status.TheVariants as status
 use Rattle.run_report.specs.declared.records.RunRecord.{RunRecord}
@@ -49,7 +51,7 @@ module _ (Is : Script → Type 0) (turns : ℕ) (Serving : Script → ℕ → Ru
   ends_as refuses listen status.ListenFault ends = absurd ends.0
 
 -- what is served, whatever was read of the clock
-pub whatever_read : (script : Script) (turns : ℕ) (wide : Bool) (Read : List ℕ → Type 0) (old new : Door) (old_links new_links : ℕ → Link) (run : RunRecord) (spent : Option ℕ)
+abbrev pub whatever_read : (script : Script) (turns : ℕ) (wide : Bool) (Read : List ℕ → Type 0) (old new : Door) (old_links new_links : ℕ → Link) (run : RunRecord) (spent : Option ℕ)
     → Serves script turns wide Read old new old_links new_links run spent → Serves script turns wide AnyReadings old new old_links new_links run spent
 whatever_read script turns wide Read old new old_links new_links run spent served = (
     let drives = served.drives in
@@ -87,18 +89,37 @@ serves_as Is Known turns Serving Served status.ReadFault run is goes served = se
 serves_as Is Known turns Serving Served (status.ScriptFault line kind) run is goes served = served
 serves_as Is Known turns Serving Served status.ListenFault run is goes served = served
 
-pub behind_listen : (wide : Bool) (Read : List ℕ → Type 0) (before old new : Door) (before_links old_links new_links : ℕ → Link) (script : Script) (turns : ℕ) (run : RunRecord) (spent : Option ℕ) → old ≡ before → ((c : ℕ) → old_links c ≡ before_links c)
-    → WireServes wide Read old new old_links new_links script turns run spent → WireServes wide Read before new before_links new_links script turns run spent
-behind_listen wide Read before old new before_links old_links new_links script turns run spent door links served = record {
-  links = served.links;
-  same = λ c. served.same c ∙ links c;
-  serves = subst (λ (d : Door). Serves script turns wide Read d new served.links new_links run spent) door served.serves;
-  headline = served.headline;
-  finished = served.finished;
-}
+-- over a wire that came to listen so
+pub behind_listen : {W : Type 0} (gives : W → List ℕ → Listened → W → Type 0) (link : W → ℕ → Link) (first ready : W) (address : List ℕ) (wide : Bool) (Read : List ℕ → Type 0) (before old new : Door) (new_links : ℕ → Link)
+    (script : Script) (turns : ℕ) (run : RunRecord) (spent : Option ℕ) → gives first address Ready ready → old ≡ before → ((c : ℕ) → link ready c ≡ link first c)
+    → WireServes Anyhow wide Read old new (link ready) new_links script turns run spent → WireServes (ListensAt gives link first address) wide Read before new (link first) new_links script turns run spent
+behind_listen gives link first ready address wide Read before old new new_links script turns run spent listens door links served =
+    subst (λ (d : Door). WireServes (ListensAt gives link first address) wide Read d new (link first) new_links script turns run spent) door (record {
+      links = served.links;
+      listening = record { wire = ready; listens = listens; tells = served.same };
+      same = λ c. served.same c ∙ links c;
+      serves = served.serves;
+      headline = served.headline;
+      finished = served.finished;
+      clock = served.clock;
+    })
+
+-- what is served at an address, for so many turns, whichever way these are told
+pub served_at : {W : Type 0} (Is : Script → Type 0) (gives : W → List ℕ → Listened → W → Type 0) (link : W → ℕ → Link) (first : W) (wide : Bool) (Read : List ℕ → Type 0) (old new : Door) (old_links new_links : ℕ → Link) (ended : Status) (run : RunRecord)
+    (address told : List ℕ) (turns count : ℕ) → address ≡ told → turns ≡ count → ServesSo Is turns (WireServes (ListensAt gives link first address) wide Read old new old_links new_links) ended run
+    → ServesSo Is count (WireServes (ListensAt gives link first told) wide Read old new old_links new_links) ended run
+served_at Is gives link first wide Read old new old_links new_links ended run address told turns count same many served =
+    subst (λ (n : ℕ). ServesSo Is n (WireServes (ListensAt gives link first told) wide Read old new old_links new_links) ended run) many
+    (subst (λ (text : List ℕ). ServesSo Is turns (WireServes (ListensAt gives link first text) wide Read old new old_links new_links) ended run) same served)
+
+-- the address that a command of `serve` gives
+abbrev pub address_in : Chosen → List ℕ
+address_in (chosen.Serve path address turns) = address
+address_in (chosen.Replay path) = []
+address_in (chosen.Drill n) = []
 
 -- the turns that a command of `serve` gives
-pub turns_in : Chosen → ℕ
+abbrev pub turns_in : Chosen → ℕ
 turns_in (chosen.Serve path address turns) = turns
 turns_in (chosen.Replay path) = 0
 turns_in (chosen.Drill n) = n

@@ -13,12 +13,15 @@ use Rattle.gateway_run.specs.declared.writing.Printed.TheVariants as printed
 use Rattle.gateway_run.specs.declared.statuses.Status.{Status}
 use Rattle.gateway_run.specs.declared.statuses.Status.TheVariants as status
 use Rattle.headline.specs.Headline.{Headline}
+use Rattle.lease_core.specs.Holdings.{AreAdjoining, holdings_of}
+use Rattle.lease_core.specs.State.{state_of}
 use Rattle.run_laws.specs.Records.{IsAccountedRecord}
 use Rattle.run_report.specs.Report.{report_of}
 use Rattle.run_report.specs.Summary.{summary_of}
 use Rattle.run_report.specs.declared.records.RunRecord.{RunRecord}
 use Rattle.script_run.specs.Means.{Means}
 use Rattle.script_text.specs.Meaning.{script_of}
+use Rattle.session_book.specs.declared.reads.SessionRecord.{SessionRecord}
 use Rattle.script_text.specs.declared.kinds.ScriptError.TheVariants.{Fault}
 use Rattle.script_text.specs.declared.steps.Script.{Script}
 
@@ -46,6 +49,11 @@ text_for (chosen.Serve path address turns) run = report_of run
 -- what a run leaves that did not begin
 abbrev pub no_run : RunRecord
 no_run = record { engine = record { sessions = []; connections = []; strays = []; accepted = 0; added = [] }; libraries = [] }
+
+-- What the owners of a session held, by its journal's entries alone, cuts the messages that the journal counts into intervals: the engine's first, from 0 on,
+-- each where the one before ended, and the last up to the end.
+abbrev pub HasAdjoiningHoldings : SessionRecord → Type 0
+HasAdjoiningHoldings r = AreAdjoining (holdings_of r.registry.entries) (state_of r.registry.entries).inbound
 
 -- The record is what a script means that is one of these, all that it tells is accounted for, and the headline holds of it, where the wire is that which the
 -- script's last step left.

@@ -1,9 +1,12 @@
 -- How serving ends.
 use Rattle.std.specs.Prelude.{◌≡◌, ℕ, Bool, List, Option, None, Some}
 use Rattle.std.specs.List.{All}
+use Rattle.clock_laws.specs.Kept.{KeepsTime}
 use Rattle.engine_end.specs.Records.{HasLawfulJournal}
 use Rattle.gate_io.specs.Sink.{HasTaken, HasTakenPrefix}
 use Rattle.gate_io.specs.Wire.{Door, Link}
+use Rattle.gate_io.specs.declared.wires.Listened.{Listened}
+use Rattle.gate_io.specs.declared.wires.Listened.TheVariants.{Ready}
 use Rattle.gateway_run.specs.Outcome.{no_run}
 use Rattle.gateway_run.specs.declared.statuses.Status.{Status}
 use Rattle.gateway_run.specs.declared.statuses.Status.TheVariants as status
@@ -13,14 +16,27 @@ use Rattle.run_report.specs.declared.records.RunRecord.{RunRecord}
 use Rattle.script_text.specs.declared.steps.Script.{Script}
 use Rattle.serve_run.specs.Serves.{Serves, connections_of}
 
--- The script is served over a wire that listens, which told of its connections, as it began to, what it told before. The headline holds of the record, where the wire
--- tells what it does in the end; and where no turns were spent nothing is left to wait for.
-pub record WireServes (wide : Bool) (Read : List ℕ → Type 0) (old new : Door) (old_links new_links : ℕ → Link) (script : Script) (turns : ℕ) (run : RunRecord) (spent : Option ℕ) : Type 0 where
+-- A wire came to listen at this address, and tells this of its connections.
+pub record ListensAt {W : Type 0} (gives : W → List ℕ → Listened → W → Type 0) (link : W → ℕ → Link) (old : W) (address : List ℕ) (links : ℕ → Link) : Type 0 where
+  pub wire : W
+  pub listens : gives old address Ready wire
+  pub tells : (c : ℕ) → links c ≡ link wire c
+
+-- The script is served over a wire that listens so, which told of its connections, as it began to, what it told before. The headline holds of the record, where the
+-- wire tells what it does in the end; where no turns were spent nothing is left to wait for; and a connection ended since nothing came only where the clock had gone on for
+-- as long as it is waited for.
+pub record WireServes (Listening : (ℕ → Link) → Type 0) (wide : Bool) (Read : List ℕ → Type 0) (old new : Door) (old_links new_links : ℕ → Link) (script : Script) (turns : ℕ) (run : RunRecord) (spent : Option ℕ) : Type 0 where
   pub links : ℕ → Link
+  pub listening : Listening links
   pub same : (c : ℕ) → links c ≡ old_links c
   pub serves : Serves script turns wide Read old new links new_links run spent
   pub headline : Headline script.config new_links run
   pub finished : spent ≡ None → IsFinished (connections_of script.config) run
+  pub clock : KeepsTime script.config serves.reading serves.drives.last.readings run
+
+-- however it came to listen
+abbrev pub Anyhow : (ℕ → Link) → Type 0
+Anyhow links = Unit {0}
 
 -- the record is what serving a script leaves that is one of these, and so the turns were spent
 pub record IsServed (Is : Script → Type 0) (turns : ℕ) (Serving : Script → ℕ → RunRecord → Option ℕ → Type 0) (run : RunRecord) (spent : Option ℕ) : Type 0 where

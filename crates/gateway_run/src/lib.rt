@@ -2,6 +2,7 @@
 //! with engine and libraries in threads of their own, and the report of what that leaves is written.
 #![tactic(auto)]
 
+mod journals;
 mod reading;
 mod replaying;
 mod serving;

@@ -10,13 +10,14 @@ ghost use Rattle.engine_end.specs.Records.{HasLawfulJournal};
 ghost use Rattle.gate_io.specs.Counts.{HasRisen};
 ghost use Rattle.gate_io.specs.Sink.{HasTaken, HasTakenPrefix};
 ghost use Rattle.gate_io.specs.Source.{GaveWithin};
-ghost use Rattle.gateway_run.specs.Outcome.{EndsSo, IsScriptOf, IsTextOf, Leaves, RefusesSource, WritesNothing, no_run, text_for};
+ghost use Rattle.gateway_run.specs.Outcome.{EndsSo, HasAdjoiningHoldings, IsScriptOf, IsTextOf, Leaves, RefusesSource, WritesNothing, no_run, text_for};
 ghost use Rattle.run_report.specs.Report.{report_of};
 ghost use Rattle.run_report.specs.Summary.{summary_of};
 ghost use Rattle.script_text.specs.Meaning.{script_of};
 ghost use Rattle.script_text.specs.declared.kinds.ScriptKind.{ScriptKind};
 ghost use Rattle.script_text.specs.declared.steps.Script.{Script as TheScript};
 
+use crate::journals::lawful_journals_adjoin;
 use crate::reading::{no_record, script_in};
 use crate::statuses::Status;
 use crate::writing::{Printed, write};
@@ -63,8 +64,9 @@ pub fn replay<So: Source, Si: Sink>(
     // A beginning of it was taken.
     ensures cut_off { (command : TheChosen) → Gives (map string_bytes words.now) command → result.0 ≡ Status.WriteFault → HasTakenPrefix (Si.held out.old) (text_for command result.1) (Si.held out.new) }
     ensures nothing_written { WritesNothing result.0 → out.new ≡ out.old }
-    // The journal of each session is lawful, also without memory.
+    // The journal of each session is lawful, and its holdings adjoin, also without memory.
     ensures journals { All HasLawfulJournal result.1.engine.sessions }
+    ensures adjoining { All HasAdjoiningHoldings result.1.engine.sessions }
     // Where nothing stands in the way, the run is whole, unless memory is wanting.
     ensures complete { IfSome (So.left script.old) (λ text. (said : TheScript) → HasCommandFor IsForReplay (map string_bytes words.now) → script_of false text ≡ Ok said
         → (HasRisen (So.faults script.old) (So.faults script.new) → ⊥) → (HasRisen (Si.faults out.old) (Si.faults out.new) → ⊥)
@@ -73,6 +75,7 @@ pub fn replay<So: Source, Si: Sink>(
         → (result.0 ≡ Status.Ok) ⊎ (result.0 ≡ Status.OutOfMemory) }
 {
     words_give_one();
+    lawful_journals_adjoin();
     match command_of(alloc, words) {
         Ok(Chosen::Replay { .. }) => replay_script(alloc, script, out),
         Ok(Chosen::Drill { n }) => replay_drill(alloc, n, out),

@@ -8,17 +8,19 @@ ghost use Rattle.gate_io.specs.Clock.{TakesReadings};
 ghost use Rattle.gate_io.specs.Counts.{HasRisen};
 ghost use Rattle.gate_io.specs.Sink.{HasTaken, HasTakenPrefix};
 ghost use Rattle.gate_io.specs.Source.{GaveWithin};
-ghost use Rattle.gateway_run.specs.Outcome.{IsTextOf, RefusesSource, WritesNothing, no_run};
-ghost use Rattle.gateway_run.specs.Served.{EndsServing, IsSpent, ServesSo, WireServes, with_spent};
+ghost use Rattle.gateway_run.specs.Outcome.{HasAdjoiningHoldings, IsTextOf, RefusesSource, WritesNothing, no_run};
+ghost use Rattle.gateway_run.specs.Served.{Anyhow, EndsServing, IsSpent, ListensAt, ServesSo, WireServes, with_spent};
 ghost use Rattle.run_report.specs.Report.{report_of};
 ghost use Rattle.script_text.specs.Lawful.{IsLawful};
 ghost use Rattle.script_text.specs.Meaning.{script_of};
 ghost use Rattle.script_text.specs.declared.kinds.ScriptKind.{ScriptKind};
 ghost use Rattle.script_text.specs.declared.steps.Script.{Script as TheScript};
 
+use crate::journals::lawful_journals_adjoin;
 use crate::reading::{no_record, script_in};
 use crate::statuses::Status;
 use crate::writing::{Printed, write};
+use clock_laws::laws::silences_are_waited_for;
 use command_words::laws::words_give_one;
 use command_words::{Chosen, WordsError, command_of};
 use gate_io::{Clock, Dial, Gate, Listened, NoMemory, Sink, Source};
@@ -57,9 +59,10 @@ pub fn serve<
     // Nothing came at the wire before.
     requires accepted { (W.door wire.old).accepted ≡ 0 }
     requires dialled { (W.door wire.old).dialled ≡ 0 }
-    // The record is what engine and libraries left that served the script, side by side, and the headline holds of it.
+    // The wire came to listen at the address; the record is what engine and libraries left that served the script, side by
+    // side; and the headline holds of it.
     ensures served { (path address : List ℕ) (turns : ℕ) → Gives (map string_bytes words.now) (Chosen.Serve path address turns)
-        → ServesSo (IsTextOf true (So.left script.old)) turns (WireServes (G.open_wide gate.now) (λ readings. TakesReadings C.has_read clock.old readings clock.new) (W.door wire.old) (W.door wire.new) (W.link wire.old) (W.link wire.new)) result.0 result.1 }
+        → ServesSo (IsTextOf true (So.left script.old)) turns (WireServes (ListensAt W.listen_gives W.link wire.old address) (G.open_wide gate.now) (λ readings. TakesReadings C.has_read clock.old readings clock.new) (W.door wire.old) (W.door wire.new) (W.link wire.old) (W.link wire.new)) result.0 result.1 }
     // The sink took the report of that record, also where turns were spent.
     ensures reported { result.0 ≡ Status.Ok → HasTaken (Si.held out.old) (report_of result.1) (Si.held out.new) }
     ensures reported_spent { IsSpent result.0 → HasTaken (Si.held out.old) (report_of result.1) (Si.held out.new) }
@@ -77,8 +80,9 @@ pub fn serve<
     // A beginning of it was taken.
     ensures cut_off { result.0 ≡ Status.WriteFault → HasTakenPrefix (Si.held out.old) (report_of result.1) (Si.held out.new) }
     ensures nothing_written { WritesNothing result.0 → out.new ≡ out.old }
-    // The journal of each session is lawful, also without memory.
+    // The journal of each session is lawful, and its holdings adjoin, also without memory.
     ensures journals { All HasLawfulJournal result.1.engine.sessions }
+    ensures adjoining { All HasAdjoiningHoldings result.1.engine.sessions }
     // Where nothing stands in the way, the run is whole, unless turns were spent or memory was wanting.
     ensures complete { IfSome (So.left script.old) (λ text. (said : TheScript) → HasCommandFor IsForServe (map string_bytes words.now) → script_of true text ≡ Ok said
         → (HasRisen (So.faults script.old) (So.faults script.new) → ⊥) → (HasRisen (W.door wire.old).listen_faults (W.door wire.new).listen_faults → ⊥)
@@ -86,6 +90,7 @@ pub fn serve<
         → (result.0 ≡ Status.Ok) ⊎ (IsSpent result.0 ⊎ (result.0 ≡ Status.OutOfMemory))) }
 {
     words_give_one();
+    lawful_journals_adjoin();
     match command_of(alloc, words) {
         Ok(Chosen::Serve { address, turns, .. }) => {
             let address = address.into_inner();
@@ -130,7 +135,7 @@ fn serve_at<
     requires turns { 1 ≤ turns }
     requires accepted { (W.door wire.old).accepted ≡ 0 }
     requires dialled { (W.door wire.old).dialled ≡ 0 }
-    ensures served { ServesSo (IsTextOf true (So.left source.old)) turns (WireServes (G.open_wide gate.now) (λ readings. TakesReadings C.has_read clock.old readings clock.new) (W.door wire.old) (W.door wire.new) (W.link wire.old) (W.link wire.new)) result.0 result.1 }
+    ensures served { ServesSo (IsTextOf true (So.left source.old)) turns (WireServes (ListensAt W.listen_gives W.link wire.old address.now) (G.open_wide gate.now) (λ readings. TakesReadings C.has_read clock.old readings clock.new) (W.door wire.old) (W.door wire.new) (W.link wire.old) (W.link wire.new)) result.0 result.1 }
     ensures ends { EndsServing (RefusesSource true (So.left source.old) (So.faults source.old) (So.faults source.new)) (HasRisen (W.door wire.old).listen_faults (W.door wire.new).listen_faults) (report_of result.1) (Si.held out.old) (Si.held out.new) (HasRisen (Si.faults out.old) (Si.faults out.new)) (out.new ≡ out.old) result.0 }
     ensures read_fault_within { result.0 ≡ Status.ReadFault → GaveWithin (So.left source.old) LONGEST_SCRIPT (So.left source.new) }
     ensures journals { All HasLawfulJournal result.1.engine.sessions }
@@ -161,11 +166,12 @@ fn serve_out<R: Threads + Sync, W: Dial + Send, C: Clock + Send, G: Gate + Sync,
     requires turns { 1 ≤ turns }
     requires accepted { (W.door wire.old).accepted ≡ 0 }
     requires dialled { (W.door wire.old).dialled ≡ 0 }
-    ensures served { ServesSo (λ said. said ≡ script) turns (WireServes (G.open_wide gate.now) (λ readings. TakesReadings C.has_read clock.old readings clock.new) (W.door wire.old) (W.door wire.new) (W.link wire.old) (W.link wire.new)) result.0 result.1 }
+    ensures served { ServesSo (λ said. said ≡ script) turns (WireServes Anyhow (G.open_wide gate.now) (λ readings. TakesReadings C.has_read clock.old readings clock.new) (W.door wire.old) (W.door wire.new) (W.link wire.old) (W.link wire.new)) result.0 result.1 }
     ensures ends { EndsServing (λ _. ⊥) ⊥ (report_of result.1) (Si.held out.old) (Si.held out.new) (HasRisen (Si.faults out.old) (Si.faults out.new)) (out.new ≡ out.old) result.0 }
     ensures journals { All HasLawfulJournal result.1.engine.sessions }
 {
     served_headlines_hold();
+    silences_are_waited_for();
     match serve_script(rt, alloc, script, turns, wire, clock, gate) {
         Ok(Served { run, spent }) => {
             let status = write(alloc, &run, Printed::Report, out);

@@ -69,6 +69,7 @@ pub record Hears (library at beat : ℕ) (old new : LibraryDesk) : Type 0 where
   pub later : (heard_of old.desk.seat.knows library).count ≤ beat
   pub kept : kept_of new.watch library ≡ kept_after (kept_of old.watch library) beat at
   pub others : (other : ℕ) → 1 ≤ other → other ≢ library → kept_of new.watch other ≡ kept_of old.watch other
+  pub timeout : new.watch.timeout ≡ old.watch.timeout
   pub rest : new ≡ record old { desk = record (old.desk) { seat = new.desk.seat }; watch = new.watch }
 
 -- the library fell silent: its beat is the one that was kept, and that stood still for the timeout

@@ -8,6 +8,7 @@ ghost use Rattle.lease_core.specs.State.{state_of};
 ghost use Rattle.lease_core.specs.Steps.{IsLibrary, reply_to};
 ghost use Rattle.resend_plan.specs.Fit.{IsFit};
 ghost use Rattle.session_book.specs.Acts.{after_lapse, after_request};
+ghost use Rattle.session_book.specs.Book.{next_number};
 ghost use Rattle.session_book.specs.Words.{after_timeout, after_word, shown_sends};
 ghost use Rattle.switchboard.specs.Board.{DeskChanges, book_at, desk_at, outlet_at, place_at, session_at, with_session};
 ghost use Rattle.switchboard.specs.Happenings.{Happens, lapses, requests, reserves, shows, times_out};
@@ -89,6 +90,8 @@ impl Switchboard {
         requires outbox { length bodies.old.items ≤ (outlet_at self.old (place_at self.old s)).spare }
         ensures news { desk_at self.new s ≡ after_word at until w bodies.old.items (desk_at self.old s) }
         ensures lines { lines_of (book_at self.new s).entries ≡ raised (lines_of (book_at self.old s).entries) w }
+        ensures sends { result.sends ≡ length bodies.old.items }
+        ensures first { result.first ≡ next_number (book_at self.old s) }
         ensures ended { result.ended ≡ (raises (lines_of (book_at self.old s).entries) w && is_released w.standing) }
         ensures taken { bodies.new.items ≡ [] }
         ensures others { DeskChanges s (place_at self.old s) self.old self.new }
@@ -127,6 +130,8 @@ impl Switchboard {
         requires outbox { length bodies.old.items ≤ (outlet_at self.old (place_at self.old s)).spare }
         ensures news { desk_at self.new s ≡ after_timeout at until old bodies.old.items (desk_at self.old s) }
         ensures lines { lines_of (book_at self.new s).entries ≡ taken_back old.standing (raised (lines_of (book_at self.old s).entries) old) }
+        ensures sends { result.sends ≡ length bodies.old.items }
+        ensures first { result.first ≡ next_number (book_at self.old s) }
         ensures ended { IsTrue result.ended }
         ensures taken { bodies.new.items ≡ [] }
         ensures others { DeskChanges s (place_at self.old s) self.old self.new }

@@ -8,4 +8,4 @@ pub returns-in-Ready-clause-served : goal.returns-in-Ready-clause-served
 returns-in-Ready-clause-served g c =
     serves_as (λ said. said ≡ c.in-Ok.script) (IsTextOf true (g.So.Source.left c.args.source.now)) c.args.turns _ _ c.serve_out.result.0 c.serve_out.result.1
     (λ script is. subst (λ (s : Script). IsTextOf true (g.So.Source.left c.args.source.now) s) (sym is) c.in-Ok.ensures.script)
-    (λ script spent served. behind_listen _ _ _ _ _ _ _ _ script c.args.turns _ spent c.in-Ready.ensures.listens c.in-Ready.ensures.links_stay served) c.serve_out.ensures.served
+    (λ script spent served. behind_listen (g.W.Wire.listen_gives) (g.W.Wire.link) c.args.wire.now c.listen.new.self c.args.address.now _ _ _ _ _ _ script c.args.turns _ spent c.in-Ready.ensures.exact c.in-Ready.ensures.listens c.in-Ready.ensures.links_stay served) c.serve_out.ensures.served

@@ -10,11 +10,13 @@ returns-in-Ok-clause-served g c =
       is = refl;
       serves = record {
         links = g.W.Wire.link c.args.wire.now;
+        listening = tt;
         same = λ k. refl;
         serves = c.in-Ok.ensures.serves;
         headline = c.served_headlines_hold.ensures.headline c.args.script c.args.turns _ _ _ _ _ _ _ (whatever_read c.args.script c.args.turns _ _ _ _ _ _ _ _ c.in-Ok.ensures.serves) c.requires.lawful.config.fits c.requires.accepted c.requires.dialled c.in-Ok.ensures.journals;
         finished = λ none. c.served_headlines_hold.ensures.finished c.args.script c.args.turns _ _ _ _ _ _
             (none_spent _ _ _ _ _ _ _ _ _ none (whatever_read c.args.script c.args.turns _ _ _ _ _ _ _ _ c.in-Ok.ensures.serves)) c.requires.accepted c.requires.dialled;
+        clock = c.silences_are_waited_for.ensures c.args.script c.args.turns _ _ _ _ _ _ _ (whatever_read c.args.script c.args.turns _ _ _ _ _ _ _ _ c.in-Ok.ensures.serves);
       };
     })
     c.in-Ok.ensures.journals c.write-status.ensures)

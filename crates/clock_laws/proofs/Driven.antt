@@ -1,0 +1,111 @@
+-- Over the turns of a run that is served sessions and connections stay in time, up to a moment that the clock told.
+use Rattle.std.proofs.Common.{◌≡◌, inl, inr, ℕ, zero, suc, ◌<◌, ◌≤◌, List, [], ◌∷◌, ◌++◌, get_or, length, map, Option, None, refl, sym, ap, subst, ◌∙◌, arith}
+use Rattle.std.proofs.lemmas.Bool.{cases_lt}
+use Rattle.std.proofs.lemmas.List.Elements.{All-append, All-filter, All-from_get_or, All-map, All-nil, All-weaker}
+use Rattle.std.proofs.lemmas.Option.{none-some}
+use Rattle.std.specs.List.{All}
+use Rattle.std.specs.Prelude.{max, min, not}
+use Rattle.clock_laws.proofs.Lines.{AreInTime, IsInTime, later_line}
+use Rattle.clock_laws.proofs.Opened.{AreOpened, IsOff}
+use Rattle.clock_laws.proofs.Phases.{HasHeard}
+use Rattle.clock_laws.proofs.Walk.{ClockLaws, IsClockedAt, each_in_turn, turn_clocked, turn_moment}
+use Rattle.clock_laws.specs.Kept.{moment_at}
+use Rattle.clock_laws.specs.Waited.{EndedInTime}
+use Rattle.connection_core.specs.Connection.{ConnectionState}
+use Rattle.connection_core.specs.Record.{record_of}
+use Rattle.engine_config.specs.declared.config.Config.{Config}
+use Rattle.engine_end.specs.Records.{accepted_of, connection_records, dialled_of}
+use Rattle.engine_loop.specs.declared.engine.Engine.{Engine}
+use Rattle.engine_start.specs.Starts.{StartsSessions}
+use Rattle.gate_io.specs.Clock.{greatest_of}
+use Rattle.gate_io.specs.declared.clocks.TheConstants.{LAST_MOMENT}
+use Rattle.lease_core.specs.declared.entry.Entry.{Entry}
+use Rattle.serve_run.specs.Drives.{Drive, DrivesFor, DrivesOn, DrivesOnce}
+use Rattle.session_book.specs.Book.{Book}
+use Rattle.session_book.specs.Kept.{Kept}
+use Rattle.session_core.specs.State.{State}
+use Rattle.session_core.specs.declared.causes.Cause.TheVariants.{Silent}
+use Rattle.switchboard.specs.Board.{Board, book_at, no_session, place_at}
+
+-- the greatest reading, once there is one more
+greatest_more : (readings : List ℕ) (reading : ℕ) → greatest_of (readings ++ reading ∷ []) ≡ max (greatest_of readings) reading
+greatest_more [] reading = omega arith
+greatest_more (r ∷ rs) reading = (let rest = greatest_more rs reading in omega arith)
+
+told_further : (old new r reading before after last : ℕ) → new ≡ max old (min r last) → after ≡ max before r → old ≤ min (max reading before) last → new ≤ min (max reading after) last
+told_further old new r reading before after last moment greatest told = omega arith
+
+pub told_first : (reading last : ℕ) → min reading last ≤ min (max reading 0) last
+told_first reading last = omega arith
+
+past_all : (places : List (Option ℕ)) (s : ℕ) → length places ≤ s → get_or places s None ≡ None
+past_all [] s past = refl
+past_all (p ∷ ps) zero past = absurd (omega arith)
+past_all (p ∷ ps) (suc s) past = past_all ps s (omega arith)
+
+from_zero : (n : ℕ) → 0 ≤ n
+from_zero n = omega arith
+
+-- as a run begins
+module _ (start : ℕ → State) (first : ℕ) (config : Config) (board : Board) (starts : StartsSessions config board) where
+  first_heard : (s : ℕ) → s < length board.sessions → HasHeard first first (book_at board s).machine
+  first_heard s within =
+      subst (λ (book : Book). HasHeard first first book.machine) (sym (starts.books s (subst (λ n. s < n) starts.count within)))
+      (record { heard = λ on. absurd (on refl); past = from_zero first; tested = λ since is. absurd (none-some since is) })
+
+  first_off : (s : ℕ) → s < length board.sessions → IsOff (get_or board.sessions s no_session)
+  first_off s within none = ap (λ (book : Book). book.machine.phase) (starts.books s (subst (λ n. s < n) starts.count within))
+
+  unplaced : (s : ℕ) → place_at board s ≡ None
+  unplaced s = elim (cases_lt s (length board.sessions)) [
+    | inl within ↦ starts.first.unplaced s within
+    | inr past ↦ past_all board.places s (let places = starts.first.places in omega arith)
+  ]
+
+  pub first_in_time : AreInTime start first first board
+  first_in_time = record {
+    lines = subst (All (IsInTime start first first)) (sym starts.first.connections) (All-nil (IsInTime start first first));
+    machines = All-from_get_or (λ (kept : Kept). HasHeard first first kept.book.machine) board.sessions no_session first_heard;
+  }
+
+  pub first_opened : AreOpened board
+  first_opened = record {
+    off = All-from_get_or IsOff board.sessions no_session first_off;
+    opened = λ s k placed. absurd (none-some k (sym (unplaced s) ∙ placed));
+  }
+
+module _ (before : ℕ → List Entry) (start : ℕ → State) (first : ℕ) (g : ClockLaws before start) where
+  -- The engine's moment isn't before the first one, and is no greater than the greatest that the clock told.
+  pub record IsClockedDrive (reading : ℕ) (drive : Drive) : Type 0 where
+    pub begun : first ≤ drive.at.engine.moment
+    pub clocked : IsClockedAt before start first g drive.at.engine.moment drive.at.engine.sessions.desk.board
+    pub told : drive.at.engine.moment ≤ moment_at (greatest_of (reading ∷ drive.readings))
+
+  drove_once : (reading : ℕ) (old new : Drive) → DrivesOnce old new → IsClockedDrive reading old → IsClockedDrive reading new
+  drove_once reading old new is was =
+      let one = is.makes in
+      let made : one.made.engine.moment ≡ max old.at.engine.moment (min is.reading LAST_MOMENT) = turn_moment before start first g is.reading old.at one.made is.turn one.makes in
+      let moment : new.at.engine.moment ≡ max old.at.engine.moment (min is.reading LAST_MOMENT) = ap (λ (e : Engine). e.moment) one.engine ∙ made in
+      let begun = was.begun in
+      record {
+        begun = omega arith;
+        clocked = subst (λ (e : Engine). IsClockedAt before start first g e.moment e.sessions.desk.board) (sym one.engine)
+            (turn_clocked before start first g is.reading old.at one.made is.turn one.makes was.begun was.clocked);
+        told = told_further old.at.engine.moment new.at.engine.moment is.reading reading (greatest_of old.readings) (greatest_of new.readings) LAST_MOMENT moment
+            (ap greatest_of is.readings_are ∙ greatest_more old.readings is.reading) was.told;
+      }
+
+  pub drove_for : (reading connections libraries count : ℕ) (old new : Drive) → DrivesFor connections libraries count old new → IsClockedDrive reading old → IsClockedDrive reading new
+  drove_for reading connections libraries count old new is was =
+      each_in_turn (λ i. DrivesOn connections libraries) (λ a b. IsClockedDrive reading a → IsClockedDrive reading b) (λ d so. so) (λ a b c one two so. two (one so)) (λ i a b on. drove_once reading a b on.drives) count old new is was
+
+-- what the records of connections that are in time have
+line_record : (start : ℕ → State) (first at last : ℕ) → at ≤ last → (c : ConnectionState) → IsInTime start first at c → EndedInTime start first last (record_of c)
+line_record start first at last up_to c was since is = (later_line start first at last up_to c was).ended (Silent since) is since refl
+
+pub lines_recorded : (start : ℕ → State) (first at last : ℕ) → at ≤ last → (cs : List ConnectionState) → All (IsInTime start first at) cs → All (EndedInTime start first last) (connection_records cs)
+lines_recorded start first at last up_to cs all =
+    let each = All-weaker (IsInTime start first at) (λ (c : ConnectionState). EndedInTime start first last (record_of c)) (line_record start first at last up_to) cs all in
+    All-append (EndedInTime start first last) (map record_of (accepted_of cs)) (map record_of (dialled_of cs))
+    (All-map (EndedInTime start first last) record_of (accepted_of cs) (All-filter (λ (c : ConnectionState). not c.dialled) (λ (c : ConnectionState). EndedInTime start first last (record_of c)) cs each))
+    (All-map (EndedInTime start first last) record_of (dialled_of cs) (All-filter (λ (c : ConnectionState). c.dialled) (λ (c : ConnectionState). EndedInTime start first last (record_of c)) cs each))

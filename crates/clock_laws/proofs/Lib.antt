@@ -1,0 +1,10 @@
+mod Phases
+mod Books
+mod Causes
+mod Lines
+mod Opened
+mod Waits
+mod Walk
+mod Driven
+mod Refuted
+mod Served

@@ -1,0 +1,82 @@
+-- What a script that is served leaves keeps time.
+use Rattle.std.proofs.Common.{◌≡◌, ℕ, ◌≤◌, Bool, [], ◌∷◌, length, Option, sym, ap, subst, arith}
+use Rattle.std.specs.List.{All}
+use Rattle.std.specs.Prelude.{min}
+use Rattle.clock_laws.proofs.Driven.{IsClockedDrive, drove_for, first_in_time, first_opened, lines_recorded, told_first}
+use Rattle.clock_laws.proofs.Walk.{ClockLaws, IsClockedAt, gathered_clocked}
+use Rattle.clock_laws.specs.Kept.{KeepsTime, moment_at}
+use Rattle.clock_laws.specs.Waited.{EndedInTime}
+use Rattle.engine_laws.specs.Account.{IsAccountedFor}
+use Rattle.engine_config.specs.declared.config.Config.{Config}
+use Rattle.engine_loop.specs.Engines.{until_of}
+use Rattle.engine_loop.specs.Turns.{AtWire, at_wire}
+use Rattle.engine_loop.specs.declared.engine.Engine.{Engine}
+use Rattle.gate_io.specs.Clock.{greatest_of}
+use Rattle.gate_io.specs.Wire.{Door, Link}
+use Rattle.gate_io.specs.declared.clocks.TheConstants.{LAST_MOMENT}
+use Rattle.run_laws.specs.Accounted.{IsAccountedAt, first_machines, no_entries}
+use Rattle.run_report.specs.declared.records.RunRecord.{RunRecord}
+use Rattle.script_text.specs.declared.steps.Script.{Script}
+use Rattle.serve_laws.specs.Served.{AnyReadings, IsServedRecord}
+use Rattle.serve_run.specs.Drives.{drive_of}
+use Rattle.serve_run.specs.Serves.{Serves, connections_of}
+use Rattle.session_core.specs.State.{State}
+
+-- The laws of accounts, what the engine is as it begins, and what is left once it has met the libraries.
+module _ (script : Script) (turns : ℕ) (wide : Bool) (old new : Door) (old_links new_links : ℕ → Link) (left : RunRecord) (spent : Option ℕ) (serves : Serves script turns wide AnyReadings old new old_links new_links left spent)
+    (g : ClockLaws no_entries (first_machines script.config)) (account : IsAccountedAt no_entries (first_machines script.config) serves.first.moment serves.first.sessions) (is : IsServedRecord script new_links serves.last left) where
+  abbrev config : Config
+  config = script.config
+
+  abbrev start : ℕ → State
+  start = first_machines config
+
+  abbrev first : ℕ
+  first = min serves.reading LAST_MOMENT
+
+  abbrev last : ℕ
+  last = moment_at (greatest_of (serves.reading ∷ serves.drives.last.readings))
+
+  begun : IsClockedDrive no_entries start first g serves.reading (drive_of (at_wire serves.first old old_links) [] [])
+  begun =
+      let moment = serves.starts.figures.moment in
+      record {
+        begun = subst (λ n. first ≤ n) (sym moment) (omega arith);
+        clocked = subst (λ n. IsClockedAt no_entries start first g n serves.first.sessions.desk.board) (sym moment)
+            (record {
+              ready = account.ready;
+              account = subst (λ n. IsAccountedFor no_entries start n serves.first.sessions.desk.board) moment account.account;
+              in_time = first_in_time start first config serves.first.sessions.desk.board serves.starts.sessions;
+              opened = first_opened start first config serves.first.sessions.desk.board serves.starts.sessions;
+            });
+        told = subst (λ n. n ≤ moment_at (greatest_of (serves.reading ∷ []))) (sym moment) (told_first serves.reading LAST_MOMENT);
+      }
+
+  driven : IsClockedDrive no_entries start first g serves.reading serves.drives.last
+  driven = drove_for no_entries start first g serves.reading (connections_of config) config.libraries serves.drives.count (drive_of (at_wire serves.first old old_links) [] []) serves.drives.last serves.drives.drives begun
+
+  last_begun : first ≤ serves.last.moment
+  last_begun = subst (λ (a : AtWire). first ≤ a.engine.moment) serves.drives.at driven.begun
+
+  last_told : serves.last.moment ≤ last
+  last_told = subst (λ (a : AtWire). a.engine.moment ≤ last) serves.drives.at driven.told
+
+  last_clocked : IsClockedAt no_entries start first g serves.last.moment serves.last.sessions.desk.board
+  last_clocked = subst (λ (a : AtWire). IsClockedAt no_entries start first g a.engine.moment a.engine.sessions.desk.board) serves.drives.at driven.clocked
+
+  -- meeting the libraries changes neither
+  met_clocked : IsClockedAt no_entries start first g is.engine.moment is.engine.sessions.desk.board
+  met_clocked = subst (λ (e : Engine). IsClockedAt no_entries start first g e.moment e.sessions.desk.board) (sym is.has_met) last_clocked
+
+  same_moment : is.engine.moment ≡ serves.last.moment
+  same_moment = ap (λ (e : Engine). e.moment) is.has_met
+
+  gathered : IsClockedAt no_entries start first g is.engine.moment is.leaves.gathered.board
+  gathered = gathered_clocked no_entries start first g (length is.engine.sessions.desk.board.sessions) is.engine.moment (until_of is.engine) _ is.leaves.gathered
+      (subst (λ n. first ≤ n) (sym same_moment) last_begun) is.leaves.gathers met_clocked
+
+  pub keeps_time : KeepsTime config serves.reading serves.drives.last.readings left
+  keeps_time = record {
+    silent = subst (All (EndedInTime start first last)) (sym is.leaves.leaves.connections)
+        (lines_recorded start first is.engine.moment last (subst (λ n. n ≤ last) (sym same_moment) last_told) is.leaves.gathered.board.connections gathered.in_time.lines);
+  }

@@ -1,0 +1,11 @@
+use Rattle.clock_laws.proofs.Refuted.{before_refuted, early_refuted, still_refuted}
+use Rattle.clock_laws.proofs.laws.early_ends_are_refuted.Goals as goal
+
+pub returns-clause-still : goal.returns-clause-still
+returns-clause-still c = still_refuted
+
+pub returns-clause-before : goal.returns-clause-before
+returns-clause-before c = before_refuted
+
+pub returns-clause-early : goal.returns-clause-early
+returns-clause-early c = early_refuted

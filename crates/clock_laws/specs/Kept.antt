@@ -1,0 +1,17 @@
+-- A record over whose run the clock told these readings.
+use Rattle.std.specs.Prelude.{ℕ, min, List, ◌∷◌}
+use Rattle.std.specs.List.{All}
+use Rattle.clock_laws.specs.Waited.{EndedInTime}
+use Rattle.engine_config.specs.declared.config.Config.{Config}
+use Rattle.gate_io.specs.Clock.{greatest_of}
+use Rattle.gate_io.specs.declared.clocks.TheConstants.{LAST_MOMENT}
+use Rattle.run_laws.specs.Accounted.{first_machines}
+use Rattle.run_report.specs.declared.records.RunRecord.{RunRecord}
+
+-- a reading of the clock as a moment, no later than the last one
+abbrev pub moment_at : ℕ → ℕ
+moment_at reading = min reading LAST_MOMENT
+
+-- A connection ended since nothing came only where the clock had gone on for as long as it is waited for: from the first reading on, up to the greatest.
+pub record KeepsTime (config : Config) (reading : ℕ) (readings : List ℕ) (left : RunRecord) : Type 0 where
+  pub silent : All (EndedInTime (first_machines config) (moment_at reading) (moment_at (greatest_of (reading ∷ readings)))) left.engine.connections

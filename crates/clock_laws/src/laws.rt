@@ -1,0 +1,43 @@
+//! Laws of the definitions. Each is the contract of a function that does nothing.
+
+ghost use Rattle.std.specs.Prelude.{ℕ, Bool, List, Option};
+ghost use Rattle.clock_laws.specs.Kept.{KeepsTime};
+ghost use Rattle.clock_laws.specs.Wrong.{IsCutOffEarly, IsRefuted, IsSilentBefore, StandsStill};
+ghost use Rattle.gate_io.specs.Wire.{Door, Link};
+ghost use Rattle.run_report.specs.declared.records.RunRecord.{RunRecord};
+ghost use Rattle.script_text.specs.declared.steps.Script.{Script};
+ghost use Rattle.serve_laws.specs.Served.{AnyReadings};
+ghost use Rattle.serve_run.specs.Serves.{Serves};
+
+use engine_laws::laws::{
+    accounts_are_whole, happenings_are_accounted_for, sessions_are_accounted_for,
+    steps_are_accounted_for,
+};
+use library_desk::laws::serving_happens;
+use run_laws::laws::engines_are_accounted_for;
+use serve_laws::laws::served_scripts_are_accounted_for;
+
+/// Whatever script is served, a connection of its record ended since nothing came only where the clock had gone on for as long as
+/// that is waited for.
+pub fn silences_are_waited_for()
+    ensures { (script : Script) (turns : ℕ) (wide : Bool) (old new : Door) (old_links new_links : ℕ → Link) (left : RunRecord) (spent : Option ℕ)
+        (serves : Serves script turns wide AnyReadings old new old_links new_links left spent) → KeepsTime script.config serves.reading serves.drives.last.readings left }
+{
+    accounts_are_whole();
+    happenings_are_accounted_for();
+    sessions_are_accounted_for();
+    steps_are_accounted_for();
+    serving_happens();
+    engines_are_accounted_for();
+    served_scripts_are_accounted_for();
+}
+
+/// Records are pinned down by the clock: each of these families of wrong ones is refuted.
+pub fn early_ends_are_refuted()
+    // No reading was greater than the first.
+    ensures still { IsRefuted StandsStill }
+    // Nothing came from a moment on that lies before the first reading.
+    ensures before { IsRefuted IsSilentBefore }
+    // A connection without a session ended before the time that a Logon may take.
+    ensures early { IsRefuted IsCutOffEarly }
+{}

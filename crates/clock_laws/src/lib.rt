@@ -1,0 +1,6 @@
+//! What the clock had told where a connection of a served run ended since nothing came.
+//!
+//! It has no code, only laws of the definitions of the crates below.
+#![tactic(auto)]
+
+pub mod laws;
