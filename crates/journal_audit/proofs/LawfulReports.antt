@@ -1,5 +1,5 @@
 -- Each session of a report with the verdict Yes is a lawful journal.
-use Rattle.std.proofs.Common.{◌≡◌, ℕ, ◌+◌, ◌⊎◌, inl, inr, Bool, true, false, List, [], ◌∷◌, Option, Some, None, refl, sym, ap, ◌∙◌, subst}
+use Rattle.std.proofs.Common.{◌≡◌, ℕ, ◌+◌, ◌⊎◌, inl, inr, Bool, true, false, List, [], ◌∷◌, Option, Some, None, refl, sym, subst}
 use Rattle.lease_core.specs.Laws.{EntriesDecide, HoldingsAdjoin}
 use Rattle.journal_audit.specs.Cut.{cut_of}
 use Rattle.journal_audit.specs.Journals.{Journal, no_journal, journal_in, journals_in, journal_with, headed, JournalsAreLawful}
@@ -31,35 +31,35 @@ step adjoin decide (Some (line.Library library reads)) limit last seen j js fres
 step adjoin decide (Some (line.Call c)) limit last seen j js fresh right behind = call_step c seen j js right behind
 step adjoin decide (Some line.End) limit last seen j js fresh right behind = end_step last seen j js right (behind tt)
 
-journal-nil : journal_in [] ≡ no_journal
+pub journal-nil : journal_in [] ≡ no_journal
 unfolding journal_in
 journal-nil = refl
 
-journals-nil : journals_in [] ≡ []
+pub journals-nil : journals_in [] ≡ []
 unfolding journals_in
 journals-nil = refl
 
-journal-cons : (l : List ℕ) (lines : List (List ℕ)) → journal_in (l ∷ lines) ≡ journal_with (line_of l) (journal_in lines)
+pub journal-cons : (l : List ℕ) (lines : List (List ℕ)) → journal_in (l ∷ lines) ≡ journal_with (line_of l) (journal_in lines)
 unfolding journal_in
 journal-cons l lines = refl
 
-journals-cons : (l : List ℕ) (lines : List (List ℕ)) → journals_in (l ∷ lines) ≡ headed (line_of l) (journal_in lines) (journals_in lines)
+pub journals-cons : (l : List ℕ) (lines : List (List ℕ)) → journals_in (l ∷ lines) ≡ headed (line_of l) (journal_in lines) (journals_in lines)
 unfolding journals_in
 journals-cons l lines = refl
 
-gets-nil : (seen : Seen) (n : ℕ) (rest : List ℕ) (v : Verdict) → Gets seen n [] rest v → v ≡ at_end (is_done seen.place.part) n
+pub gets-nil : (seen : Seen) (n : ℕ) (rest : List ℕ) (v : Verdict) → Gets seen n [] rest v → v ≡ at_end (is_done seen.place.part) n
 unfolding Gets
 gets-nil seen n rest v h = h
 
-gets-cons : (seen : Seen) (n : ℕ) (l : List ℕ) (lines : List (List ℕ)) (rest : List ℕ) (v : Verdict) → Gets seen n (l ∷ lines) rest v → (IsRight seen l lines rest × Gets (after l lines seen) (n + 1) lines rest v) ⊎ ((IsRight seen l lines rest → ⊥) × (v ≡ No n))
+pub gets-cons : (seen : Seen) (n : ℕ) (l : List ℕ) (lines : List (List ℕ)) (rest : List ℕ) (v : Verdict) → Gets seen n (l ∷ lines) rest v → (IsRight seen l lines rest × Gets (after l lines seen) (n + 1) lines rest v) ⊎ ((IsRight seen l lines rest → ⊥) × (v ≡ No n))
 unfolding Gets
 gets-cons seen n l lines rest v h = h
 
-yes_done : (done : Bool) (n : ℕ) → Yes ≡ at_end done n → done ≡ true
+pub yes_done : (done : Bool) (n : ℕ) → Yes ≡ at_end done n → done ≡ true
 yes_done true n e = refl
 yes_done false n e = cc
 
-yes_no : (n : ℕ) → Yes ≡ No n → ⊥
+pub yes_no : (n : ℕ) → Yes ≡ No n → ⊥
 yes_no n e = cc
 
 sound : HoldingsAdjoin → EntriesDecide → (lines : List (List ℕ)) (seen : Seen) (n : ℕ) (rest : List ℕ) → IsFresh seen.place.part seen → Gets seen n lines rest Yes → IsSound seen (journal_in lines) (journals_in lines)

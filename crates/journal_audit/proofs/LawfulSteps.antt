@@ -1,25 +1,22 @@
 -- One line more in front: what the lines from it on tell follows from what those behind it tell.
-use Rattle.std.proofs.Common.{◌≡◌, ℕ, suc, zero, ◌+◌, ◌⊎◌, inl, inr, ◌&&◌, ◌==◌, Bool, true, false, List, [], ◌∷◌, ◌++◌, length, drop, fold, Option, Some, None, refl, sym, ap, ◌∙◌, subst, arith, add-one}
+use Rattle.std.proofs.Common.{◌≡◌, ℕ, ◌+◌, ◌⊎◌, inl, inr, ◌&&◌, Bool, true, false, List, [], ◌∷◌, ◌++◌, length, drop, fold, Option, refl, sym, ap, ◌∙◌, subst, arith, add-one}
 use Rattle.std.proofs.lemmas.Bool.{false≢true, and_parts, eqb-true}
 use Rattle.std.proofs.lemmas.List.{length_push}
-use Rattle.std.specs.Prelude.{slice_get, nat_lt, nat_le}
 use Rattle.lease_core.specs.Holdings.{holdings_of, AreAdjoining}
 use Rattle.lease_core.specs.Laws.{EntriesDecide, HoldingsAdjoin}
 use Rattle.lease_core.specs.Runs.{IsNext, IsRun, IsRunFrom}
 use Rattle.lease_core.specs.State.{State, state_of, state_after, opening}
 use Rattle.lease_core.specs.declared.entry.Entry.{Entry}
 use Rattle.lease_core.specs.declared.entry.Holding.{Holding}
-use Rattle.journal_audit.specs.Journals.{Journal, no_journal, IsLawful, AreLawful, journal_with, headed}
-use Rattle.journal_audit.specs.Rules.{IsRightLine, after_line, after_entry, after_holding, after_in, after_out, after_session, after_stray, after_connection, after_wrote, after_library, after_call, is_next_in, is_next_out, is_next_series, is_next_session, is_next_holding, is_stray, is_next_connection, is_written, is_next_library, is_right_call, is_end, is_start, is_logs, is_connections, is_calls, before_strays, before_connections, before_libraries, may_end, closed, closed_at, all_held, all_in, place_with_logs, logs_if_entries, place_with_entry, noted, same_header, is_holding, at_place}
-use Rattle.journal_audit.specs.Seen.{Seen, PlaceSeen, header_of, bare_place, entries_place}
-use Rattle.journal_audit.specs.Sessions.{session_after, with_holding}
+use Rattle.journal_audit.specs.Journals.{Journal, no_journal, IsLawful, AreLawful}
+use Rattle.journal_audit.specs.Rules.{after_entry, after_holding, after_in, after_out, after_session, after_stray, after_connection, after_wrote, after_library, after_call, is_next_in, is_next_out, is_next_series, is_next_session, is_next_holding, is_stray, is_next_connection, is_written, is_next_library, is_right_call, is_end, is_start, is_logs, is_calls, may_end, closed, all_in, place_with_logs, logs_if_entries, place_with_entry, same_header, at_place}
+use Rattle.journal_audit.specs.Seen.{Seen, PlaceSeen, header_of, bare_place}
+use Rattle.journal_audit.specs.Sessions.{session_after}
 use Rattle.journal_audit.specs.declared.line.Call.{Call}
 use Rattle.journal_audit.specs.declared.line.Header.{Header}
-use Rattle.journal_audit.specs.declared.line.Line.{Line}
-use Rattle.journal_audit.specs.declared.line.Line.TheVariants as line
 use Rattle.journal_audit.specs.declared.place.Part.{Part}
 use Rattle.journal_audit.specs.declared.place.Part.TheVariants as part
-use Rattle.journal_audit.proofs.Standing.{IsFresh, IsBehind, IsRest, NowAt, start_is, logs_is, connections_is, calls_is, next_is, ended, closed_fresh, IsSame, noted_same, session_same, holding_same, call_same, held_next}
+use Rattle.journal_audit.proofs.Standing.{IsFresh, IsBehind, IsRest, NowAt, start_is, logs_is, connections_is, calls_is, ended, closed_fresh, noted_same, session_same, holding_same, call_same, held_next}
 
 -- what stands in the lines from here on, of the session whose lines come, and of those that follow
 pub record IsSound (seen : Seen) (j : Journal) (js : List Journal) : Type 0 where
@@ -93,7 +90,7 @@ entry_step decide e seen j js fresh right behind =
       later = sound.later;
     }
 
-logs_of : (p : Part) (place : PlaceSeen) → place.part ≡ p → is_logs (logs_if_entries p place).part ≡ true → (p ≡ part.Entries) ⊎ (p ≡ part.Logs)
+pub logs_of : (p : Part) (place : PlaceSeen) → place.part ≡ p → is_logs (logs_if_entries p place).part ≡ true → (p ≡ part.Entries) ⊎ (p ≡ part.Logs)
 logs_of part.Start place e h = absurd (false≢true (ap is_logs (sym e) ∙ h))
 logs_of part.Head place e h = absurd (false≢true (ap is_logs (sym e) ∙ h))
 logs_of part.Entries place e h = inl refl
@@ -170,21 +167,21 @@ in_step pos body seen j js right behind =
       later = sound.later;
     }
 
-out_behind : (body : List ℕ) (seen : Seen) (j : Journal) (js : List Journal) → all_in seen ≡ true → (IsFresh seen.place.part (after_out body seen) → IsSound (after_out body seen) j js) → IsSound seen j js
+out_behind : (body : List ℕ) (seen : Seen) (j : Journal) (js : List Journal) → all_in seen ≡ true → (IsFresh seen.place.part (after_out body seen) → IsSound (after_out body seen) j js) → IsSound seen (record j { outbound = body ∷ j.outbound }) js
 out_behind body seen j js right behind =
     let held = (and_parts _ _ right).0 in
     let at = logs_is seen.place.part (and_parts _ _ held).0 in
     let sound = behind (subst (λ (p : Part). IsFresh p (after_out body seen)) (sym at) tt) in
     let rest : IsRest (after_out body seen) j = subst (λ (p : Part). NowAt p (after_out body seen) j) at sound.now in
     record {
-      now = subst (λ (p : Part). NowAt p seen j) (sym at) (record { entries = rest.entries; holdings = rest.holdings; inbound = rest.inbound });
+      now = subst (λ (p : Part). NowAt p seen (record j { outbound = body ∷ j.outbound })) (sym at) (record { entries = rest.entries; holdings = rest.holdings; inbound = rest.inbound });
       later = sound.later;
     }
 
-pub out_step : (number : ℕ) (body : List ℕ) (seen : Seen) (j : Journal) (js : List Journal) → is_next_out seen number body ≡ true → (IsFresh seen.place.part (after_out body seen) → IsSound (after_out body seen) j js) → IsSound seen j js
+pub out_step : (number : ℕ) (body : List ℕ) (seen : Seen) (j : Journal) (js : List Journal) → is_next_out seen number body ≡ true → (IsFresh seen.place.part (after_out body seen) → IsSound (after_out body seen) j js) → IsSound seen (record j { outbound = body ∷ j.outbound }) js
 out_step number body seen j js right behind = out_behind body seen j js (and_parts _ _ right).0 behind
 
-pub series_step : (series : ℕ) (seen : Seen) (j : Journal) (js : List Journal) → is_next_series seen series ≡ true → (IsFresh seen.place.part (after_out [] seen) → IsSound (after_out [] seen) j js) → IsSound seen j js
+pub series_step : (series : ℕ) (seen : Seen) (j : Journal) (js : List Journal) → is_next_series seen series ≡ true → (IsFresh seen.place.part (after_out [] seen) → IsSound (after_out [] seen) j js) → IsSound seen (record j { outbound = [] ∷ j.outbound }) js
 series_step series seen j js right behind = out_behind [] seen j js (and_parts _ _ right).0 behind
 
 pub stray_step : (library nr s : ℕ) (seen : Seen) (j : Journal) (js : List Journal) → is_stray seen ≡ true → IsSound (after_stray library nr s seen) j js → IsSound seen j js

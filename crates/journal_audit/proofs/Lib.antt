@@ -1,5 +1,3 @@
-pub mod Cuts
-pub mod Naturals
 pub mod LineCuts
 pub mod Colons
 pub mod Holds
@@ -8,3 +6,9 @@ pub mod VerdictSteps
 pub mod Standing
 pub mod LawfulSteps
 pub mod LawfulReports
+pub mod CallsTell
+pub mod Told
+pub mod Grants
+pub mod Owed
+pub mod ShownSo
+pub mod Refuted

@@ -11,14 +11,16 @@ use Rattle.journal_audit.specs.declared.auditing.Verdict.TheVariants.{Yes}
 use Rattle.journal_audit.specs.declared.line.Line.{Line}
 use Rattle.journal_audit.specs.declared.line.Line.TheVariants as line
 
--- a session: its entries, its holdings, and the bodies of its inbound messages, in order
+-- A session: its entries, its holdings, and the bodies of its inbound and of its outbound messages, each in order. Where a further series of the
+-- outbound log begins, an empty body stands.
 pub record Journal : Type 0 where
   pub entries : List Entry
   pub holdings : List Holding
   pub inbound : List (List ℕ)
+  pub outbound : List (List ℕ)
 
 abbrev pub no_journal : Journal
-no_journal = record { entries = []; holdings = []; inbound = [] }
+no_journal = record { entries = []; holdings = []; inbound = []; outbound = [] }
 
 -- a session with what one line more in front says of it
 abbrev pub journal_with : Option Line → Journal → Journal
@@ -28,8 +30,8 @@ journal_with (Some (line.Session s header)) journal = no_journal
 journal_with (Some (line.Entry e)) journal = record journal { entries = e ∷ journal.entries }
 journal_with (Some (line.Holding h)) journal = record journal { holdings = h ∷ journal.holdings }
 journal_with (Some (line.In pos body)) journal = record journal { inbound = body ∷ journal.inbound }
-journal_with (Some (line.Out number body)) journal = journal
-journal_with (Some (line.Series series)) journal = journal
+journal_with (Some (line.Out number body)) journal = record journal { outbound = body ∷ journal.outbound }
+journal_with (Some (line.Series series)) journal = record journal { outbound = [] ∷ journal.outbound }
 journal_with (Some (line.Stray library nr s)) journal = journal
 journal_with (Some (line.Connection c s written)) journal = journal
 journal_with (Some (line.Wrote bytes)) journal = journal

@@ -9,3 +9,6 @@ pub mod Seen
 pub mod Rules
 pub mod Verdicts
 pub mod Journals
+pub mod Called
+pub mod Shown
+pub mod Wrong

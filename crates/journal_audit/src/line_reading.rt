@@ -1,9 +1,7 @@
 //! Reading a whole line.
 
 ghost use Rattle.std.specs.Prelude.{◌≡◌, IfOk, IsSome};
-ghost use Rattle.std.specs.List.{list_all};
 ghost use Rattle.script_text.specs.Args.{later};
-ghost use Rattle.script_text.specs.Words.{is_name, is_name_byte};
 ghost use Rattle.journal_audit.specs.EntryLines.{behind2};
 ghost use Rattle.journal_audit.specs.Lines.{name_at, header_at, session_line, stray_line, cause_word_of, is_bare_cause, is_numbered_cause, is_cause, cause_at, cause_line, bound_at, connection_line, library_line, first_line, head_line, head_word_of, flush_line, holding_line, in_line, numbered_at, out_line, series_line, wrote_line, part_word_of, part_line, indented_line, line_of, named_call};
 
@@ -11,9 +9,9 @@ use crate::calls::{call_word_of, read_call};
 use crate::entry_lines::read_entry;
 use crate::line::{Header, Line};
 use crate::words::{Words, read_small_number};
-use fix_fields::LONGEST_NAME;
 use gate_io::NoMemory;
 use lease_core::Holding;
+use script_text::is_name;
 use std::alloc::Global;
 
 /// The first word of a line that begins with no space.
@@ -253,30 +251,6 @@ fn read_first(mut words: Words<'_>) -> Option<Line>
         words.end(Line::Head)
     } else {
         None
-    }
-}
-
-/// Whether a word is a name: 1 to 32 printable bytes without space, `|`, `\` and `=`.
-#[tactic(auto, unfolding(script_text::specs::Words::is_name))]
-fn is_name(word: &[u8]) -> bool
-    ensures { result ≡ is_name word.now }
-{
-    !word.is_empty() && word.len() <= LONGEST_NAME && are_name_bytes(word)
-}
-
-fn are_name_bytes(word: &[u8]) -> bool
-    ensures { result ≡ list_all is_name_byte word.now }
-{
-    word.iter().all(|b| is_name_byte(*b))
-}
-
-fn is_name_byte(b: u8) -> bool
-    ensures { result ≡ is_name_byte b }
-{
-    match b {
-        b'|' | b'\\' | b'=' => false,
-        0x21..=0x7e => true,
-        _ => false,
     }
 }
 

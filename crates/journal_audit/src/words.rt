@@ -1,19 +1,14 @@
 //! The words of a line, read one after the other.
 
 ghost use Rattle.std.specs.Prelude.{◌≡◌, ◌≤◌, Some, IfOk, IfSome};
-ghost use Rattle.std.specs.Option.{option_map};
 ghost use Rattle.script_text.specs.Args.{lent_args, keyword_at, later};
-ghost use Rattle.script_text.specs.Words.{word_in, behind_word, natural_of};
 ghost use Rattle.journal_audit.specs.Words.{number_in, half_in, number_at, number_to, named_to, stamp_in, stamp_at, printed_in, printed_at, ending, label_at, BYTE, HALF, WORD, LONG};
 
 use fix_fields::read_stamp;
 use gate_io::{Bytes, NoMemory};
-use script_text::{push_printed, read_text};
+use script_text::{push_printed, read_natural, read_text, split_word};
 use std::alloc::Global;
 use std::marker::Model;
-
-/// The most digits of a number.
-const MOST_DIGITS: usize = 20;
 
 /// How many bytes a timestamp with milliseconds has.
 pub(crate) const STAMP_LENGTH: usize = 21;
@@ -172,19 +167,6 @@ impl<'a> Words<'a> {
     }
 }
 
-/// The bytes up to the first space, and what stands behind it, if there is one.
-fn split_word(text: &[u8]) -> (&[u8], Option<&[u8]>)
-    ensures word { result.0.now ≡ word_in text.now }
-    ensures behind { option_map (λ rest. rest.now) result.1 ≡ behind_word text.now }
-{
-    for (i, b) in text.iter().enumerate() {
-        if *b == b' ' {
-            return (&text[..i], Some(&text[i + 1..]));
-        }
-    }
-    (text, None)
-}
-
 /// The number that a word is, without leading zeros.
 #[tactic(auto, unfolding(crate::specs::Words::number_in))]
 fn read_number(word: &[u8]) -> Option<u64>
@@ -207,24 +189,6 @@ pub(crate) fn read_small_number(word: &[u8]) -> Option<u16>
     } else {
         None
     }
-}
-
-/// The number that a word is: one to twenty digits with a value below 2^64.
-fn read_natural(word: &[u8]) -> Option<u64>
-    ensures { result ≡ natural_of word.now }
-{
-    if word.is_empty() || word.len() > MOST_DIGITS {
-        return None;
-    }
-    let mut value = 0u64;
-    for b in word {
-        if !b.is_ascii_digit() {
-            return None;
-        }
-        let digit = (*b - b'0') as u64;
-        value = value.checked_mul(10)?.checked_add(digit)?;
-    }
-    Some(value)
 }
 
 #[tactic(auto, unfolding(crate::specs::Words::stamp_in))]

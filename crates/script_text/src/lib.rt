@@ -27,3 +27,4 @@ pub use printed::{push_printed, read_text};
 pub use reading::{LONGEST_SCRIPT, read_script};
 pub use session_core::Names;
 pub use steps::{LibStep, Script, Step};
+pub use words::{is_name, read_natural, split_word};

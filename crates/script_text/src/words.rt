@@ -12,7 +12,7 @@ use fix_fields::LONGEST_NAME;
 const MOST_DIGITS: usize = 20;
 
 /// The bytes up to the first space, and what stands behind it, if there is one.
-pub(crate) fn split_word(text: &[u8]) -> (&[u8], Option<&[u8]>)
+pub fn split_word(text: &[u8]) -> (&[u8], Option<&[u8]>)
     ensures word { result.0.now ≡ word_in text.now }
     ensures behind { option_map (λ rest. rest.now) result.1 ≡ behind_word text.now }
 {
@@ -143,7 +143,7 @@ pub(crate) fn lib_word_of(word: &[u8]) -> Option<LibWord>
 }
 
 /// The number that a word is: one to twenty digits with a value below 2^64.
-pub(crate) fn read_natural(word: &[u8]) -> Option<u64>
+pub fn read_natural(word: &[u8]) -> Option<u64>
     ensures { result ≡ natural_of word.now }
 {
     if word.is_empty() || word.len() > MOST_DIGITS {
@@ -162,7 +162,7 @@ pub(crate) fn read_natural(word: &[u8]) -> Option<u64>
 
 /// Whether a word is a name: 1 to 32 printable bytes without space, `|`, `\` and `=`.
 #[tactic(auto, unfolding(crate::specs::Words::is_name))]
-pub(crate) fn is_name(word: &[u8]) -> bool
+pub fn is_name(word: &[u8]) -> bool
     ensures { result ≡ is_name word.now }
 {
     !word.is_empty() && word.len() <= LONGEST_NAME && are_name_bytes(word)
