@@ -8,7 +8,7 @@ ghost use Rattle.example_broker.specs.Trades.{AnswersOver, FollowsOn, MovesOn, R
 use crate::answering::{Answer, answer_message};
 use crate::calling::{give_back, hand, poll, request};
 use crate::floor::Floor;
-use crate::resting::{NAP, PATIENCE, rest};
+use crate::resting::{NAP, WAKEFUL, rest};
 use gate_io::NoMemory;
 use library_api::{Event, Library, Links};
 use library_desk::Shared;
@@ -18,7 +18,7 @@ use std::time::Duration;
 use std::{rt, thread};
 
 /// Behind so many polls in a row that found nothing a library ends, where each connection has ended.
-const QUIET: u64 = PATIENCE + 200;
+const QUIET: u64 = WAKEFUL + 200;
 
 /// How many rounds a library makes at most before it looks at all sessions.
 const ROUNDS: u32 = 64;
