@@ -10,6 +10,12 @@ use gate_io::NoMemory;
 use itoa::Buffer;
 use std::alloc::Global;
 
+/// Room for a text, so that most don't grow as they are written.
+const TEXT_ROOM: usize = 256;
+
+/// Room for an OrderID (37): a session, a line and a number.
+const NAME_ROOM: usize = 32;
+
 /// A field that is to be written.
 #[derive(Clone, Copy)]
 pub struct Put<'a>(u32, &'a [u8]);
@@ -60,7 +66,7 @@ fn named_fill_text<'a>(
 fn text_of(alloc: Global, fields: &[Put<'_>]) -> Result<Vec<u8>, NoMemory>
     ensures { IfOk result (λ text. text.items ≡ fields_text (map put_field fields.now)) }
 {
-    let mut text = Vec::new(alloc);
+    let mut text = Vec::with_capacity(alloc, TEXT_ROOM)?;
     for field in fields {
         put_field(&mut text, field.0, field.1)?;
     }
@@ -71,7 +77,7 @@ fn text_of(alloc: Global, fields: &[Put<'_>]) -> Result<Vec<u8>, NoMemory>
 fn fill_name(alloc: Global, s: u16, number: u64) -> Result<Vec<u8>, NoMemory>
     ensures { IfOk result (λ name. name.items ≡ fill_name s number) }
 {
-    let mut name = Vec::new(alloc);
+    let mut name = Vec::with_capacity(alloc, NAME_ROOM)?;
     name.extend_from_slice(Buffer::new().format(s).as_bytes())?;
     name.push(b'-')?;
     name.extend_from_slice(Buffer::new().format(number).as_bytes())?;
