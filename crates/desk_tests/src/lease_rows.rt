@@ -1,6 +1,5 @@
 //! Rows of leases, worked by hand: what is asked, gathered and taken back.
 
-use crate::application::Seen;
 use crate::facts::Fact::{Outbound, Owner, Place, Reserved, Waits};
 use crate::steps::Step::{
     At, Connect, Gathers, GivesBack, Hears, Is, IsRefused, Orders, Polls, Requests, Sends, Serves,
@@ -11,6 +10,7 @@ use crate::texts::T;
 use lease_core::Entry::{Admin, Bind, Hold, Release, Send, Timeout};
 use lease_core::{Entry, Reply, Why};
 use library_desk::LibTurn::Answered;
+use library_play::Seen;
 use std::test::Fail;
 
 pub const LOGON: Step = Hears(0, "35=A|(1)98=0|108=30|");

@@ -3,7 +3,6 @@
 #![tactic(auto)]
 
 #[cfg(test)]
-mod application;
 #[cfg(test)]
 mod board_rows;
 #[cfg(test)]

@@ -1,6 +1,5 @@
 //! Rows of libraries that are served, worked by hand.
 
-use crate::application::Seen;
 use crate::facts::Fact::{Inbound, Outbound, Owner, Strays};
 use crate::steps::Step::{
     At, Beats, Connect, Gathers, GivesBack, Hears, Is, IsDone, Orders, Polls, Publishes, Reads,
@@ -11,6 +10,7 @@ use lease_core::Entry::{Admin, Bind, Send, Timeout};
 use lease_core::{Entry, Standing, Why, Word};
 use library_desk::LibTurn::{Answered, Ended, NoCommand, NoRoom};
 use library_desk::Stray;
+use library_play::Seen;
 use std::test::Fail;
 
 const BUYER: Step = Hears(0, "35=A|(1)98=0|108=30|");

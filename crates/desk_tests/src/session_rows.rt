@@ -1,6 +1,5 @@
 //! Rows of what a session does in a turn, worked by hand.
 
-use crate::application::Seen;
 use crate::facts::Fact::{Connection, Outbound, Owner, Place, Reserved, Waits};
 use crate::lease_rows::{
     ANSWERED, FIRST, FIRST_SENT, GRANTED, HOLDS, LOGON, REQUESTS, SECOND, SENT_ALONE,
@@ -14,6 +13,7 @@ use crate::texts::T;
 use lease_core::Entry;
 use lease_core::Entry::{Admin, Arrive, Bind, Hold, Lapse, Leave, Release};
 use library_desk::LibTurn::Answered;
+use library_play::Seen;
 use session_core::Cause;
 use std::test::Fail;
 

@@ -5,7 +5,6 @@ ghost use Rattle.desk_tests.specs.Outset.{AreEnds, IsOpen};
 ghost use Rattle.desk_tests.specs.Running.{IsRunning};
 ghost use Rattle.session_core.specs.State.{IsDialHeart};
 
-use crate::application::{Application, Seen};
 use crate::engine_desk::EngineDesk;
 use crate::facts::{Fact, entries_behind, is_so};
 use crate::making::{HEART, HOLD, Sides, make};
@@ -17,6 +16,7 @@ use lease_desk::LeaseDesk;
 use lease_words::Sent;
 use library_api::{LibraryEnds2, Links, Released};
 use library_desk::{LibTurn, Shared};
+use library_play::{Application, Seen};
 use session_core::Cause;
 use std::alloc::Global;
 use std::process::Abort;
@@ -119,25 +119,38 @@ impl<'a> Morning<'a> {
 // What a library does.
 fn asks(alloc: Global, library: &mut Application<'_>, step: Step) -> Result<bool, NoMemory> {
     Ok(match step {
-        Step::Requests(_, s, from, nr) => library.request(s, from) == Some(nr),
+        Step::Requests(_, s, from, nr) => library.request(s, from).ok() == Some(nr),
         Step::Polls(_, seen) => library.poll() == seen,
         Step::Reads(_, s, lease, first, end) => {
             return reads(alloc, library, s, lease, first, end);
         }
         Step::Sends(_, s, text, lease, ordinal) => {
-            library.send(s, soh(alloc, text)?) == Some(Sent { lease, ordinal })
+            let sent = library.send(alloc, s, soh(alloc, text)?.as_slice())?;
+            matches!(sent, Some(Ok(it)) if it == Sent { lease, ordinal })
         }
-        Step::IsRefused(_, s, text) => library.send(s, soh(alloc, text)?).is_none(),
+        Step::IsRefused(_, s, text) => {
+            let sent = library.send(alloc, s, soh(alloc, text)?.as_slice())?;
+            matches!(sent, Some(Err(_)))
+        }
         Step::GivesBack(_, s, heir, lease, count) => {
-            library.give_back(s, heir) == Some(Released { lease, count })
+            give_back(library, s, heir) == Some(Released { lease, count })
         }
         Step::Beats(_) => {
             library.beat();
             true
         }
-        Step::IsDone(_, finished) => library.done(finished),
+        Step::IsDone(_, finished) => library.done(finished).is_ok(),
         _ => false,
     })
+}
+
+// A library gives a session back, to an heir unless that is 0.
+fn give_back(library: &mut Application<'_>, s: u16, heir: u8) -> Option<Released> {
+    if heir == 0 {
+        library.release(s).ok()
+    } else {
+        library.release_to(s, heir).ok()
+    }
 }
 
 // Whether a library polls the orders of these positions, each once and in order.
@@ -357,8 +370,8 @@ fn libraries<'a>(
         notices: &shared.notices[1],
     };
     Morning::new(
-        Application::new(alloc, first_links, first),
-        Application::new(alloc, second_links, second),
+        Application::new(alloc, first_links, first, u32::MAX),
+        Application::new(alloc, second_links, second, u32::MAX),
     )
 }
 
