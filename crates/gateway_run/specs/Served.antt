@@ -14,7 +14,7 @@ use Rattle.headline.specs.Finished.{IsFinished}
 use Rattle.headline.specs.Headline.{Headline}
 use Rattle.run_report.specs.declared.records.RunRecord.{RunRecord}
 use Rattle.script_text.specs.declared.steps.Script.{Script}
-use Rattle.serve_run.specs.Serves.{Serves, connections_of}
+use Rattle.serve_run.specs.Serves.{Serves}
 
 -- A wire came to listen at this address, and tells this of its connections.
 pub record ListensAt {W : Type 0} (gives : W → List ℕ → Listened → W → Type 0) (link : W → ℕ → Link) (old : W) (address : List ℕ) (links : ℕ → Link) : Type 0 where
@@ -31,7 +31,7 @@ pub record WireServes (Listening : (ℕ → Link) → Type 0) (wide : Bool) (Rea
   pub same : (c : ℕ) → links c ≡ old_links c
   pub serves : Serves script turns wide Read old new links new_links run spent
   pub headline : Headline script.config new_links run
-  pub finished : spent ≡ None → IsFinished (connections_of script.config) run
+  pub finished : spent ≡ None → IsFinished script.config.connections script.config.dials run
   pub clock : KeepsTime script.config serves.reading serves.drives.last.readings run
 
 -- however it came to listen

@@ -1,5 +1,5 @@
 -- A run that is served until it is over leaves nothing to wait for.
-use Rattle.std.proofs.Common.{◌≡◌, ◌≢◌, ℕ, suc, ◌+◌, ◌<◌, Bool, true, false, cond, List, [], ◌∷◌, length, Option, None, Some, refl, sym, ap, subst, ◌∙◌, arith}
+use Rattle.std.proofs.Common.{◌≡◌, ◌≢◌, ℕ, suc, ◌+◌, ◌<◌, ◌≤◌, Bool, true, false, cond, List, [], ◌∷◌, length, Option, None, Some, refl, sym, ap, subst, ◌∙◌, arith}
 use Rattle.std.proofs.lemmas.List.{length-append, length-map}
 use Rattle.std.proofs.lemmas.List.Elements.{All-cons, All-nil}
 use Rattle.std.proofs.lemmas.Option.{none-some}
@@ -60,13 +60,13 @@ still_ended : (old new : ConnectionState) (cause : Option Cause) → old.cause �
 still_ended old new None is ended same = absurd (ended refl)
 still_ended old new (Some cause) is ended same = λ none. none-some cause (sym none ∙ same.ended cause is)
 
-module _ (connections accepted dialled : ℕ) (last board : Board) (left : RunRecord) (strays : List Stray) (added : List Record) (is_left : IsLeftBy board strays accepted added left.engine)
+module _ (connections dials accepted dialled : ℕ) (last board : Board) (left : RunRecord) (strays : List Stray) (added : List Record) (is_left : IsLeftBy board strays accepted added left.engine)
     (last_order : AreInOrder accepted dialled last.connections) (order : AreInOrder accepted dialled board.connections) (goes_on : GoesOnTo last board)
-    (came : length last.connections ≡ connections) (ended : (k : ℕ) → k < length last.connections → (connection_at last k).cause ≢ None) where
+    (accepted_few : accepted ≤ connections) (dialled_few : dialled ≤ dials) (came : length last.connections ≡ connections + dials) (ended : (k : ℕ) → k < length last.connections → (connection_at last k).cause ≢ None) where
   same_count : length board.connections ≡ length last.connections
   same_count = in_order_count accepted dialled board.connections order ∙ sym (in_order_count accepted dialled last.connections last_order)
 
-  record_count : length left.engine.connections ≡ connections
+  record_count : length left.engine.connections ≡ connections + dials
   record_count =
       ap length is_left.connections ∙ length-append (map record_of (accepted_of board.connections)) (map record_of (dialled_of board.connections))
       ∙ ap (λ n. n + length (map record_of (dialled_of board.connections))) (length-map (accepted_of board.connections) record_of)
@@ -79,5 +79,11 @@ module _ (connections accepted dialled : ℕ) (last board : Board) (left : RunRe
       subst (λ (x : ConnRecord). x.cause ≢ None) (sym one.is)
       (still_ended (connection_at last one.k) (connection_at board one.k) (connection_at last one.k).cause refl (ended one.k within) (goes_on.each one.k within))
 
-  pub finished : first_unfinished left.libraries ≡ None → IsFinished connections left
-  finished none = record { came = record_count; ended = each_ended; plans = all_finished left.libraries none }
+  all_accepted : left.engine.accepted ≡ connections
+  all_accepted =
+      let both = in_order_count accepted dialled last.connections last_order in
+      let all : accepted ≡ connections = omega arith in
+      is_left.accepted_is ∙ all
+
+  pub finished : first_unfinished left.libraries ≡ None → IsFinished connections dials left
+  finished none = record { accepted = all_accepted; came = record_count; ended = each_ended; plans = all_finished left.libraries none }

@@ -18,4 +18,5 @@ mod Libraries
 mod Refuted
 mod RefutedDeeds
 mod MeetsHeadline
+mod Few
 mod Finished

@@ -4,6 +4,7 @@ use Rattle.std.proofs.lemmas.List.Elements.{All-append, All-cons, All-head, All-
 use Rattle.std.specs.Prelude.{if◌then◌else◌, nat_lt, slice_index_or}
 use Rattle.std.specs.List.{All}
 use Rattle.std.specs.Result.{result_ok}
+use Rattle.engine_config.specs.declared.config.DialTo.{DialTo}
 use Rattle.engine_loop.specs.Engines.{until_of}
 use Rattle.engine_loop.specs.Turns.{GivesTurn, NotesSession, PublishesSession, Reading, ReadsIfStands, ServesOne, Serving, TakesTurn, TicksSession, WritesAll, AtWire, reading_of, serving_of}
 use Rattle.engine_loop.specs.declared.engine.Engine.{Engine}
@@ -29,8 +30,10 @@ use Rattle.session_desk.specs.declared.routes.Routes.{Routes}
 use Rattle.switchboard.specs.Board.{Board, book_at, connection_at, place_at}
 use Rattle.switchboard.specs.Going.{is_coming}
 use Rattle.switchboard.specs.Happenings.{Happening, Happens, Reaches, answers, binds, binds_and_ends, ends_bound, ends_unbound, gives, lapses, prepares, receives, requests, reserves, shows, takes, ticks, times_out, writes}
+use Rattle.wire_desk.specs.Dials.{SessionWaits, WaitsBy, WaitsIfEnded, plan_at}
 use Rattle.wire_desk.specs.Places.{open_places}
 use Rattle.wire_desk.specs.Steps.{Handles, HandlesAll, HandlesBody, HandlesNext, LeavesIfTardy, PartsBy, PartsIfNeeded, PreparesTo, Reads, ReadsAs, Sessions, StopsAt, WritesAt, WritesInTurn, WritesSome, WrittenSoFar, cause_behind, sessions_of, written_so_far}
+use Rattle.wire_desk.specs.declared.dialling.Dialler.{Dialler}
 
 -- steps of one kind, one after another, of something
 pub each_in_turn : {T : Type 0} (Step : ℕ → T → T → Type 0) (Keeps : T → T → Type 0) → ((t : T) → Keeps t t) → ((a b c : T) → Keeps a b → Keeps b c → Keeps a c) → ((i : ℕ) (a b : T) → Step i a b → Keeps a b)
@@ -76,6 +79,36 @@ library_quiet at (times_out s w bodies moment until) is = refl
 library_quiet at (requests s library nr from) is = refl
 library_quiet at (reserves s) is = refl
 library_quiet at other is = absurd is
+
+-- as many dials were made, and as many may be
+pub record HasSameDials (old new : Dialler) : Type 0 where
+  pub made : new.made ≡ old.made
+  pub most : new.most ≡ old.most
+
+pub same_dials : (old new : Dialler) → new ≡ old → HasSameDials old new
+same_dials old new same = record { made = ap (λ (d : Dialler). d.made) same; most = ap (λ (d : Dialler). d.most) same }
+
+further_dials : (first second third : Dialler) → HasSameDials first second → HasSameDials second third → HasSameDials first third
+further_dials first second third one two = record { made = two.made ∙ one.made; most = two.most ∙ one.most }
+
+-- a session that dials waits, and nothing else changes
+pub waits_by : (plan : Option DialTo) (s at : ℕ) (old new : Dialler) → WaitsBy plan s at old new → HasSameDials old new
+waits_by None s at old new same = same_dials old new same
+waits_by (Some plan) s at old new is = record { made = ap (λ (d : Dialler). d.made) is.rest; most = ap (λ (d : Dialler). d.most) is.rest }
+
+session_waits : (session : Option ℕ) (at : ℕ) (old new : Dialler) → SessionWaits session at old new → HasSameDials old new
+session_waits None at old new same = same_dials old new same
+session_waits (Some s) at old new waits = waits_by (plan_at old s) s at old new waits
+
+waits_if_ended : (board : Board) (at k : ℕ) (old new : Dialler) → WaitsIfEnded board at k old new → HasSameDials old new
+waits_if_ended board at k old new is = elim is [
+  | inl ended ↦ session_waits (connection_at board k).session at old new ended.1
+  | inr stands ↦ same_dials old new stands.1
+]
+
+waits_in_turn : (board : Board) (places : List ℕ) (at count : ℕ) (old new : Dialler) → InTurn (λ i. WaitsIfEnded board at (slice_index_or places i 0)) count old new → HasSameDials old new
+waits_in_turn board places at count old new waits =
+    each_in_turn (λ i. WaitsIfEnded board at (slice_index_or places i 0)) HasSameDials (λ d. same_dials d d refl) further_dials (λ i a b. waits_if_ended board at (slice_index_or places i 0) a b) count old new waits
 
 -- A relation of boards, one behind another, that each happening keeps by which no connection comes.
 pub record IsKept (R : Board → Board → Type 0) : Type 0 where
@@ -212,26 +245,35 @@ module _ (R : Board → Board → Type 0) (g : IsKept R) where
   gathered_in_turn count at until old new gathers =
       each_in_turn (λ s. Gathers s at until) (λ a b. R a.board b.board) (λ desk. g.itself desk.board) (λ a b c. g.further a.board b.board c.board) (λ s a b. gathered s at until a b) count old new gathers
 
-  -- the steps of a turn, but for those by which a connection comes, keep the count of accepted ones
+  -- the steps of a turn, but for those by which a connection comes, keep the counts of those that came, and how many may
   pub record EngineKeeps (old new : Engine) : Type 0 where
     pub board : R old.sessions.desk.board new.sessions.desk.board
     pub accepted : new.accepted ≡ old.accepted
+    pub connections : new.connections ≡ old.connections
+    pub dials : HasSameDials old.dialler new.dialler
 
   engine_itself : (e : Engine) → EngineKeeps e e
-  engine_itself e = record { board = g.itself e.sessions.desk.board; accepted = refl }
+  engine_itself e = record { board = g.itself e.sessions.desk.board; accepted = refl; connections = refl; dials = same_dials e.dialler e.dialler refl }
 
   pub engine_further : (first second third : Engine) → EngineKeeps first second → EngineKeeps second third → EngineKeeps first third
   engine_further first second third one two = record {
     board = g.further first.sessions.desk.board second.sessions.desk.board third.sessions.desk.board one.board two.board;
     accepted = two.accepted ∙ one.accepted;
+    connections = two.connections ∙ one.connections;
+    dials = further_dials first.dialler second.dialler third.dialler one.dials two.dials;
   }
+
+  -- where only sessions, lines and room are other ones
+  engine_kept : (old new : Engine) → R old.sessions.desk.board new.sessions.desk.board → new.accepted ≡ old.accepted → new.connections ≡ old.connections → new.dialler ≡ old.dialler → EngineKeeps old new
+  engine_kept old new board accepted connections dialler = record { board = board; accepted = accepted; connections = connections; dials = same_dials old.dialler new.dialler dialler }
 
   engine_in_turn : (Step : ℕ → Engine → Engine → Type 0) (count : ℕ) (old new : Engine) → ((i : ℕ) (a b : Engine) → Step i a b → EngineKeeps a b) → InTurn Step count old new → EngineKeeps old new
   engine_in_turn Step count old new each steps = each_in_turn Step EngineKeeps engine_itself engine_further each count old new steps
 
   one_read : (k : ℕ) (old new : Reading) → ReadsIfStands k old new → EngineKeeps old.engine new.engine
   one_read k old new is = elim is [
-    | inl reads ↦ record { board = read reads.answer _ k _ old.engine.moment (until_of old.engine) _ _ reads.reads; accepted = ap (λ (e : Engine). e.accepted) reads.rest }
+    | inl reads ↦ engine_kept old.engine new.engine (read reads.answer _ k _ old.engine.moment (until_of old.engine) _ _ reads.reads)
+        (ap (λ (e : Engine). e.accepted) reads.rest) (ap (λ (e : Engine). e.connections) reads.rest) (ap (λ (e : Engine). e.dialler) reads.rest)
     | inr none ↦ subst (λ (r : Reading). EngineKeeps old.engine r.engine) (sym none.1) (engine_itself old.engine)
   ]
 
@@ -241,20 +283,25 @@ module _ (R : Board → Board → Type 0) (g : IsKept R) where
       (λ a b c. engine_further a.engine b.engine c.engine) (λ i a b. one_read (slice_index_or places i 0) a b) count old new reads
 
   session_ticked : (s : ℕ) (old new : Engine) → TicksSession s old new → EngineKeeps old new
-  session_ticked s old new is = record { board = ticked s old.moment (until_of old) old.sessions.desk new.sessions.desk is.end is.ticks; accepted = ap (λ (e : Engine). e.accepted) is.rest }
+  session_ticked s old new is =
+      engine_kept old new (ticked s old.moment (until_of old) old.sessions.desk new.sessions.desk is.end is.ticks)
+      (ap (λ (e : Engine). e.accepted) is.rest) (ap (λ (e : Engine). e.connections) is.rest) (ap (λ (e : Engine). e.dialler) is.rest)
 
   pub all_ticked : (count : ℕ) (old new : Engine) → InTurn TicksSession count old new → EngineKeeps old new
   all_ticked count old new ticks_are = engine_in_turn TicksSession count old new session_ticked ticks_are
 
   session_noted : (s : ℕ) (old new : Engine) → NotesSession s old new → EngineKeeps old new
   session_noted s old new is =
-      record { board = unchanged old.sessions.desk.board new.sessions.desk.board (ap (λ (e : Engine). e.sessions.desk.board) is.1); accepted = ap (λ (e : Engine). e.accepted) is.1 }
+      engine_kept old new (unchanged old.sessions.desk.board new.sessions.desk.board (ap (λ (e : Engine). e.sessions.desk.board) is.1))
+      (ap (λ (e : Engine). e.accepted) is.1) (ap (λ (e : Engine). e.connections) is.1) (ap (λ (e : Engine). e.dialler) is.1)
 
   pub all_noted : (count : ℕ) (old new : Engine) → InTurn NotesSession count old new → EngineKeeps old new
   all_noted count old new notes = engine_in_turn NotesSession count old new session_noted notes
 
   session_published : (s : ℕ) (old new : Engine) → PublishesSession s old new → EngineKeeps old new
-  session_published s old new is = record { board = unchanged old.sessions.desk.board new.sessions.desk.board is.board; accepted = ap (λ (e : Engine). e.accepted) is.rest }
+  session_published s old new is =
+      engine_kept old new (unchanged old.sessions.desk.board new.sessions.desk.board is.board)
+      (ap (λ (e : Engine). e.accepted) is.rest) (ap (λ (e : Engine). e.connections) is.rest) (ap (λ (e : Engine). e.dialler) is.rest)
 
   all_written : (links_old links_new : ℕ → Link) (old new : Engine) (bytes : ℕ) → WritesAll links_old links_new old new bytes → EngineKeeps old new
   all_written links_old links_new old new bytes is =
@@ -262,6 +309,8 @@ module _ (R : Board → Board → Type 0) (g : IsKept R) where
       record {
         board = written_in_turn places (length places) (written_so_far old.sessions.desk old.lines.unkept.items links_old 0) (written_so_far new.sessions.desk old.lines.unkept.items links_new bytes) is.writes;
         accepted = ap (λ (e : Engine). e.accepted) is.rest;
+        connections = ap (λ (e : Engine). e.connections) is.rest;
+        dials = waits_in_turn new.sessions.desk.board old.lines.dialled.items old.moment (length old.lines.dialled.items) old.dialler new.dialler is.waits;
       }
 
   pub turn_given : (old new : AtWire) (taken : Taken) (turn : Turn) → GivesTurn old new taken turn → EngineKeeps old.engine new.engine
@@ -275,10 +324,8 @@ module _ (R : Board → Board → Type 0) (g : IsKept R) where
     one_served library old new is =
         let at = old.engine.moment in
         let runs = serves library at (until_of old.engine) old.engine.sessions new.engine.sessions is.turn is.serves in
-        record {
-          board = reached runs.happenings old.engine.sessions.desk.board new.engine.sessions.desk.board (All-weaker (IsOfLibraries at) IsQuiet (library_quiet at) runs.happenings runs.all) runs.reaches;
-          accepted = ap (λ (e : Engine). e.accepted) is.rest;
-        }
+        engine_kept old.engine new.engine (reached runs.happenings old.engine.sessions.desk.board new.engine.sessions.desk.board (All-weaker (IsOfLibraries at) IsQuiet (library_quiet at) runs.happenings runs.all) runs.reaches)
+        (ap (λ (e : Engine). e.accepted) is.rest) (ap (λ (e : Engine). e.connections) is.rest) (ap (λ (e : Engine). e.dialler) is.rest)
 
     all_served : (count : ℕ) (old new : Serving) → InTurn (λ i. ServesOne (i + 1)) count old new → EngineKeeps old.engine new.engine
     all_served count old new served =

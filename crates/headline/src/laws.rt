@@ -24,7 +24,7 @@ ghost use Rattle.script_run.specs.declared.run.Run.{Run};
 ghost use Rattle.script_text.specs.declared.steps.Script.{Script};
 ghost use Rattle.script_text.specs.declared.steps.Step.{Step};
 ghost use Rattle.serve_laws.specs.Served.{AnyReadings};
-ghost use Rattle.serve_run.specs.Serves.{Serves, connections_of};
+ghost use Rattle.serve_run.specs.Serves.{Serves};
 ghost use Rattle.session_core.specs.State.{State};
 
 use engine_laws::laws::{
@@ -82,7 +82,7 @@ pub fn served_headlines_hold()
         → Headline script.config new_links left }
     // Where no turns were spent nothing is left to wait for.
     ensures finished { (script : Script) (turns : ℕ) (wide : Bool) (old new : Door) (old_links new_links : ℕ → Link) (left : RunRecord)
-        → Serves script turns wide AnyReadings old new old_links new_links left None → old.accepted ≡ 0 → old.dialled ≡ 0 → IsFinished (connections_of script.config) left }
+        → Serves script turns wide AnyReadings old new old_links new_links left None → old.accepted ≡ 0 → old.dialled ≡ 0 → IsFinished script.config.connections script.config.dials left }
 {
     connections_are_numbered();
     connections_end_whole();

@@ -1,4 +1,4 @@
-use Rattle.std.proofs.Common.{◌≡◌, ◌≢◌, ℕ, ◌<◌, Bool, List, [], length, Option, None, refl, sym, ap, subst, ◌∙◌}
+use Rattle.std.proofs.Common.{◌≡◌, ◌≢◌, ℕ, ◌<◌, ◌≤◌, Bool, List, [], length, Option, None, refl, sym, ap, subst, ◌∙◌}
 use Rattle.std.specs.List.{All}
 use Rattle.std.specs.Prelude.{min}
 use Rattle.engine_config.specs.Config.{IsConfig}
@@ -11,6 +11,7 @@ use Rattle.gate_io.specs.Wire.{Door, Link}
 use Rattle.gate_io.specs.declared.clocks.TheConstants.{LAST_MOMENT}
 use Rattle.headline.proofs.Coming.{AtWireInOrder, gathered_numbered}
 use Rattle.headline.proofs.Driven.{drove_in_order, drove_whole, first_ended, first_in_order}
+use Rattle.headline.proofs.Few.{AreFewAt, drove_few, first_few}
 use Rattle.headline.proofs.Finished.{finished, none_spent}
 use Rattle.headline.proofs.MeetsHeadline.{HeadlineLaws, meets_headline}
 use Rattle.headline.proofs.Whole.{EndLaws, gathered_whole}
@@ -126,13 +127,20 @@ module _ (c : goal.After-served_scripts_are_accounted_for) (script : Script) (tu
         reported = is.reported;
       })
 
-  run_finished : None ≡ spent → IsFinished (connections_of config) left
+  last_few : AreFewAt config.connections config.dials (at_wire serves.last new new_links)
+  last_few = subst (AreFewAt config.connections config.dials) serves.drives.at
+      (drove_few config.connections config.dials c.serving_happens.ensures.serves (connections_of config) config.libraries serves.drives.count begin serves.drives.last serves.drives.drives
+      (first_few config moment serves.shared serves.first old old_links serves.starts dialled))
+
+  run_finished : None ≡ spent → IsFinished config.connections config.dials left
   run_finished none =
       let over = none_spent serves.over left.libraries (none ∙ serves.concludes.spent_is) in
       let ended = serves.drives.ended over.0 in
-      finished (connections_of config) is.engine.accepted new.dialled is.engine.sessions.desk.board board left is.engine.sessions.strays.items left.engine.added is.leaves.leaves
+      finished config.connections config.dials is.engine.accepted new.dialled is.engine.sessions.desk.board board left is.engine.sessions.strays.items left.engine.added is.leaves.leaves
       (subst (λ n. AreInOrder n new.dialled is.engine.sessions.desk.board.connections) (sym counted) (subst (λ (b : Board). AreInOrder new.accepted new.dialled b.connections) (sym same) last_order.connections))
       order is.leaves.goes_on
+      (subst (λ n. n ≤ config.connections) (sym (ap (λ (e : Engine). e.accepted) is.has_met)) last_few.accepted_few)
+      (subst (λ n. n ≤ config.dials) last_few.made last_few.few)
       (ap (λ (b : Board). length b.connections) same ∙ ended.came)
       (subst (λ (b : Board). (k : ℕ) → k < length b.connections → (connection_at b k).cause ≢ None) (sym same) ended.ended)
       over.1
