@@ -6,6 +6,8 @@ mod Coming
 mod Whole
 mod Ending
 mod Driven
+mod FirstEntries
+mod FirstLogons
 mod Found
 mod Journals
 mod Acts
@@ -17,6 +19,7 @@ mod Within
 mod Libraries
 mod Refuted
 mod RefutedDeeds
+mod RefutedLogons
 mod MeetsHeadline
 mod Few
 mod Finished

@@ -1,32 +1,42 @@
 -- The sessions of a record log on by the connections that they dialled.
-use Rattle.std.proofs.Common.{◌≡◌, inl, inr, ℕ, ◌<◌, ◌≤◌, Bool, true, false, List, [], ◌∷◌, ◌++◌, get_or, length, Option, None, Some, refl, sym, ap, subst, ◌∙◌, arith}
+use Rattle.std.proofs.Common.{◌≡◌, inl, inr, ℕ, ◌<◌, ◌≤◌, Bool, true, false, List, [], ◌∷◌, ◌++◌, get_or, length, take, unwrap_or, Option, None, Some, refl, sym, ap, subst, ◌∙◌, arith}
 use Rattle.std.proofs.lemmas.List.{append-nil, append_cancel_right, length-take-le}
+use Rattle.std.proofs.lemmas.List.Elements.{All-contains}
 use Rattle.std.proofs.lemmas.Option.{same_Some}
-use Rattle.std.specs.List.{All, Contains}
+use Rattle.std.specs.List.{All, Contains, flat_map}
 use Rattle.std.specs.Prelude.{if◌then◌else◌}
 use Rattle.connection_core.specs.Connection.{ConnectionState, IsGiven}
+use Rattle.connection_core.specs.Items.{text_of}
+use Rattle.connection_core.specs.Outgoing.{item_text}
 use Rattle.connection_core.specs.Record.{record_of}
 use Rattle.connection_core.specs.declared.records.ConnRecord.{ConnRecord}
 use Rattle.engine_config.specs.declared.config.Config.{Config}
 use Rattle.engine_end.specs.Records.{IsLeftBy, SessionLeft, left_of}
 use Rattle.engine_laws.specs.Account.{IsAccountedFor}
 use Rattle.fix_frame.specs.Cut.{Cut, CutPiece}
+use Rattle.fix_frame.specs.Frame.{frame_of}
 use Rattle.gate_io.specs.Wire.{Link}
 use Rattle.headline.proofs.Acts.{AccountLaws, bodies_are, handled_at, session_tells}
 use Rattle.headline.proofs.Found.{connection_found, session_found}
 use Rattle.headline.proofs.Lists.{middle_is, middle_within}
-use Rattle.headline.specs.Dialled.{LogsOn}
+use Rattle.headline.specs.Dialled.{BeginsByLogon, LogsOn, logon_frame}
 use Rattle.headline.specs.Ends.{AllEndedWhole}
-use Rattle.headline.specs.Headline.{HasSession, IsCutOff, LogsOnByIt, TellsItsActs, first_in, text_in}
+use Rattle.headline.specs.Headline.{HasSession, IsCutOff, LogsOnByIt, TellsItsActs, first_in, text_in, written_names}
+use Rattle.headline.specs.LogonsFirst.{LogonsComeFirst}
 use Rattle.headline.specs.Numbering.{AreInOrder}
+use Rattle.lease_core.specs.State.{series_of}
 use Rattle.lease_core.specs.declared.entry.Entry.{Entry}
 use Rattle.lease_core.specs.declared.record.Record.{Record}
 use Rattle.library_desk.specs.declared.desk.Stray.{Stray}
+use Rattle.message_log.specs.declared.entry.OutEntry.{OutEntry}
+use Rattle.resend_plan.specs.Wire.{behind_type, body_of, message, no_entry, times, type_field}
+use Rattle.resend_plan.specs.declared.item.WireItem.TheVariants.{New}
 use Rattle.run_laws.specs.Accounted.{AllTookAsAnswered, first_machines, no_entries}
 use Rattle.run_laws.specs.Sides.{Begins}
 use Rattle.run_report.specs.declared.records.RunRecord.{RunRecord}
 use Rattle.session_book.specs.Runs.{Handled}
-use Rattle.session_book.specs.Spells.{Spell, spells_behind}
+use Rattle.session_book.specs.Spells.{Placed, Spell, items_at, spell_items, spells_behind}
+use Rattle.session_book.specs.Told.{IsLogged}
 use Rattle.session_core.specs.Ask.{after_ask, after_logon, logon_effects}
 use Rattle.session_core.specs.Receive.{Outcome, after_outcome, outcome}
 use Rattle.session_core.specs.Runs.{acts_on, after_connection, after_connections, behind, behind_all, connection_acts}
@@ -70,6 +80,24 @@ acts_begin machine heart bodies dials past =
 given_once : (c : ConnectionState) (pieces others : List CutPiece) → IsGiven c pieces → IsGiven c others → pieces ≡ others
 given_once c pieces others one two = append_cancel_right pieces others _ (ap (λ (x : Cut). x.pieces) (sym one.so_far.so_far ∙ two.so_far.so_far))
 
+-- the first item of a spell that begins with a Logon is that Logon's, and its frame is that of the Logon
+first_items : (log : List (List OutEntry)) (heart : ℕ) (spell : Spell) (is : BeginsByLogon log heart spell) → take 1 (spell_items log spell) ≡ New (series_of is.before) is.number ∷ []
+first_items log heart spell is = ap (λ (ps : List Placed). take 1 (flat_map (items_at log) ps)) is.entries
+
+logon_body : (us_and_them : Names) (log : List (List OutEntry)) (heart series number : ℕ) (is : IsLogged log series number (Logon heart false))
+    → item_text (written_names us_and_them) log (New series number) ≡ logon_frame us_and_them heart number is.entry.at
+unfolding body_of
+logon_body us_and_them log heart series number is =
+    let names = written_names us_and_them in
+    ap (λ (o : Option OutEntry). let e = unwrap_or o no_entry in frame_of (message names (type_field e.body) number (times e.at None) (behind_type e.body))) is.found
+    ∙ ap (λ (body : List ℕ). frame_of (message names (type_field body) number (times is.entry.at None) (behind_type body))) is.body
+
+first_frame : (us_and_them : Names) (log : List (List OutEntry)) (heart : ℕ) (spell : Spell) (is : BeginsByLogon log heart spell)
+    → text_of (written_names us_and_them) log (take 1 (spell_items log spell)) ≡ logon_frame us_and_them heart is.number is.logged.entry.at
+first_frame us_and_them log heart spell is =
+    let names = written_names us_and_them in
+    ap (text_of names log) (first_items log heart spell is) ∙ append-nil (item_text names log (New (series_of is.before) is.number)) ∙ logon_body us_and_them log heart (series_of is.before) is.number is.logged
+
 -- the machines of sessions are named and dial as they are configured
 pub record AreMachinesOf (config : Config) (board : Board) : Type 0 where
   pub names : (s : ℕ) → s < length board.sessions → (book_at board s).machine.names ≡ (first_machines config s).names
@@ -77,7 +105,7 @@ pub record AreMachinesOf (config : Config) (board : Board) : Type 0 where
 
 module _ (config : Config) (board : Board) (strays : List Stray) (accepted dialled : ℕ) (added : List Record) (left : RunRecord) (is_left : IsLeftBy board strays accepted added left.engine) (order : AreInOrder accepted dialled board.connections)
     (laws : AccountLaws) (at : ℕ) (account : IsAccountedFor no_entries (first_machines config) at board) (ended : AllEndedWhole board)
-    (ready : IsReady no_entries board) (links : ℕ → Link) (so : DialledAreSo board) (answers : AllTookAsAnswered no_entries board links) (machines : AreMachinesOf config board) where
+    (ready : IsReady no_entries board) (links : ℕ → Link) (so : DialledAreSo board) (answers : AllTookAsAnswered no_entries board links) (machines : AreMachinesOf config board) (firsts : LogonsComeFirst board) where
   abbrev handled_by : ℕ → List Handled
   handled_by s = handled_at config board strays accepted dialled added left is_left order laws at account ended s
 
@@ -103,7 +131,8 @@ module _ (config : Config) (board : Board) (strays : List Stray) (accepted diall
       let of = so k one.within (one.dialled_one behind) in
       let same : of.session ≡ s = same_Some of.session s (sym of.names ∙ names) in
       let machine = first_machines config s in
-      let dials : machine.dials ≡ Some of.heart = sym (machines.dials s small) ∙ ap (λ n. (book_at board n).machine.dials) (sym same) ∙ of.dials in
+      let own : (book_at board s).machine.dials ≡ Some of.heart = ap (λ n. (book_at board n).machine.dials) (sym same) ∙ of.dials in
+      let dials : machine.dials ≡ Some of.heart = sym (machines.dials s small) ∙ own in
       let bodies : h.bodies ≡ good_bodies (account.brought k).pieces =
       bodies_are (handled_by s) _ c.number _ (account.connections s).once (laws.named no_entries (first_machines config) at board account k s one.within names) i d within (sym number) in
       let pieces : (account.brought k).pieces ≡ of.pieces ++ [] = given_once c (account.brought k).pieces (of.pieces ++ []) (account.given.given k one.within) of.given in
@@ -116,13 +145,21 @@ module _ (config : Config) (board : Board) (strays : List Stray) (accepted diall
       let session = left_of (session_at board s) in
       let there : Contains (spells_behind [] told.added) told.spell =
       subst (λ (all : List Spell). Contains all told.spell) (sym told.spells) (length told.past, middle_within told.past told.later told.spell, middle_is told.past told.later told.spell told.spell) in
-      subst (λ (x : ConnRecord). LogsOn machine (spells_behind [] session.entries) (text_in session) (first_in session) h x (IsCutOff (links h.connection) x)) (sym one.is) (record {
+      let listed = subst (λ (es : List Entry). Contains (spells_behind [] es) told.spell) (sym told.entries_are) there in
+      let first : BeginsByLogon session.outbound of.heart told.spell =
+      All-contains (BeginsByLogon session.outbound of.heart) (spells_behind [] session.entries) told.spell ((firsts s small).logons of.heart own) listed in
+      let frame : first_in session told.spell ≡ logon_frame machine.names of.heart first.number first.logged.entry.at =
+      first_frame session.names session.outbound of.heart told.spell first
+      ∙ ap (λ (n : Names). logon_frame n of.heart first.number first.logged.entry.at) (machines.names s small) in
+      subst (λ (x : ConnRecord). LogsOn machine (spells_behind [] session.entries) session.outbound (text_in session) (first_in session) h x (IsCutOff (links h.connection) x)) (sym one.is) (record {
         heart = of.heart;
         dials = dials;
         logon = acts_begin machine of.heart h.bodies dials;
         spell = told.spell;
-        told = subst (λ (es : List Entry). Contains (spells_behind [] es) told.spell) (sym told.entries_are) there;
+        told = listed;
         connection = told.connection ∙ number;
+        logon_first = first;
+        first_is_logon = frame;
         begins = λ unanswered. (let begun = took.begins (answered ∙ unanswered) in record { rest = begun.0; is = sym begun.1 });
         alone = λ unanswered over. elim (took.first (answered ∙ unanswered) over) [
           | inl is ↦ inl is

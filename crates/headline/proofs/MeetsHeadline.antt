@@ -15,6 +15,7 @@ use Rattle.headline.proofs.Logons.{AreMachinesOf, acts_and_logons}
 use Rattle.headline.proofs.Texts.{took_its_text}
 use Rattle.headline.specs.Ends.{AllEndedWhole}
 use Rattle.headline.specs.Headline.{Headline}
+use Rattle.headline.specs.LogonsFirst.{LogonsComeFirst}
 use Rattle.headline.specs.Numbering.{AreInOrder}
 use Rattle.lease_core.specs.Laws.{HoldingsAdjoin as HoldingsOfRunsAdjoin, OneOwner}
 use Rattle.lease_words.specs.Views.{LibraryView}
@@ -40,13 +41,15 @@ pub record AreConfiguredSessions (config : Config) (board : Board) : Type 0 wher
 
 module _ (config : Config) (engine : Engine) (links : ℕ → Link) (seats : List LibraryView) (reports : List LibReport) (left : RunRecord)
     (leaves : LeavesAccounted no_entries (first_machines config) engine links seats reports left) where
-  -- What is left is that of the configured sessions and libraries, with connections in order that ended whole, and lawful journals; and each report is borne out.
+  -- What is left is that of the configured sessions and libraries, with connections in order that ended whole, dialled ones that begin with their Logons, and lawful
+  -- journals; and each report is borne out.
   pub record IsWholeEnd (dialled : ℕ) : Type 0 where
     pub fits : IsConfig config
     pub sessions : AreConfiguredSessions config leaves.gathered.board
     pub libraries : length left.libraries ≡ config.libraries
     pub order : AreInOrder engine.accepted dialled leaves.gathered.board.connections
     pub ended : AllEndedWhole leaves.gathered.board
+    pub firsts : LogonsComeFirst leaves.gathered.board
     pub journals : All HasLawfulJournal left.engine.sessions
     pub reported : AllReported config.asks leaves.gathered.board engine.sessions left
 
@@ -63,7 +66,7 @@ module _ (config : Config) (engine : Engine) (links : ℕ → Link) (seats : Lis
       let account = leaves.accounted.account in
       let few : length board.sessions ≤ reading_count = (let most = end.fits.sessions in let count = end.sessions.count in omega arith) in
       let machines : AreMachinesOf config board = record { names = end.sessions.names; dials = end.sessions.dials } in
-      let told = acts_and_logons config board strays accepted dialled added left is_left order laws.accounts at account end.ended ready links leaves.accounted.dialled leaves.answers machines in
+      let told = acts_and_logons config board strays accepted dialled added left is_left order laws.accounts at account end.ended ready links leaves.accounted.dialled leaves.answers machines end.firsts in
       record {
         configured = record {
           count = session_count board strays accepted added left is_left ∙ end.sessions.count;

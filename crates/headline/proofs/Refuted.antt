@@ -1,16 +1,15 @@
 -- Each of the wrong records is refuted by one sentence of the headline.
 use Rattle.std.proofs.Common.{◌≡◌, ◌≢◌, ◌⊎◌, inl, inr, ℕ, zero, suc, ◌<◌, ◌≤◌, List, [], ◌∷◌, ◌++◌, codes, get_or, length, map, Option, Some, refl, sym, ap, subst, ◌∙◌, arith}
-use Rattle.std.proofs.lemmas.List.{get_or-map, length-append, length-map}
+use Rattle.std.proofs.lemmas.List.{length-append}
 use Rattle.std.proofs.lemmas.Option.{none-some, same_Some, slice_get_within}
 use Rattle.std.specs.List.{All, Contains, flat_map, slice_get}
 use Rattle.std.specs.Prelude.{sum_by}
 use Rattle.connection_core.specs.declared.records.ConnRecord.{ConnRecord}
 use Rattle.engine_end.specs.Records.{SessionLeft}
-use Rattle.fix_frame.specs.Cut.{CutPiece, cut}
-use Rattle.fix_frame.specs.declared.layout.TheConstants.{LONGEST_FRAME}
-use Rattle.headline.specs.Headline.{AreHandedOut, GivesBack, IsStray, TookText, first_in, number_at, sends_of, sessions_of, text_in}
+use Rattle.fix_frame.specs.Cut.{CutPiece}
+use Rattle.headline.specs.Headline.{GivesBack, IsStray, TookText, sends_of, sessions_of, text_in}
 use Rattle.headline.specs.Within.{IsWithinHolding}
-use Rattle.headline.specs.Wrong.{AnswersUnbound, BindsNone, BindsOneTwice, BindsTwoAtOnce, CountsWhatNeverCame, GivesBackWhatRuns, HasTwoOwners, IsRefuted, IsRepliedToTwice, LogsNoArrival, LogsNoNumber, ReadsElsewhere, ReadsPastEnd, SendsForAnother, ShareOneConnection, SkipsNumbers, StandsWhereItWasLeft, StraysAtHome, TakesBackFromNobody, TakesMoreThanItsLogon, WritesWhatIsNotTold, connection_with, no_message, one_message, session_with}
+use Rattle.headline.specs.Wrong.{AnswersUnbound, BindsNone, BindsOneTwice, BindsTwoAtOnce, CountsWhatNeverCame, GivesBackWhatRuns, HasTwoOwners, IsRefuted, IsRepliedToTwice, LogsNoArrival, LogsNoNumber, ReadsElsewhere, ReadsPastEnd, SendsForAnother, ShareOneConnection, SkipsNumbers, StandsWhereItWasLeft, StraysAtHome, TakesBackFromNobody, WritesWhatIsNotTold, connection_with, no_message, one_message, session_with}
 use Rattle.lease_core.specs.Runs.{IsRun}
 use Rattle.lease_core.specs.State.{state_of}
 use Rattle.lease_core.specs.declared.entry.Entry.TheVariants.{Admin, Bind, Granted, Leave, Send}
@@ -19,11 +18,8 @@ use Rattle.lease_core.specs.declared.entry.Why.TheVariants.{LeasesSpent}
 use Rattle.lease_core.specs.declared.messages.Notice.{Notice}
 use Rattle.lease_core.specs.declared.messages.Notice.TheVariants as notices
 use Rattle.library_laws.specs.Replies.{Ask, answered_by, replies_told}
-use Rattle.run_laws.specs.Accounted.{first_machines}
 use Rattle.run_report.specs.declared.calls.Call.TheVariants as calls
-use Rattle.session_book.specs.Runs.{Handled, TellRuns, handled_of}
-use Rattle.switchboard.specs.Brought.{good_bodies}
-use Rattle.text_laws.specs.Answered.{answers_logon}
+use Rattle.session_book.specs.Runs.{Handled, TellRuns}
 use Rattle.session_book.specs.Spells.{Spell, placed}
 use Rattle.message_log.specs.declared.entry.OutEntry.{OutEntry}
 use Rattle.session_core.specs.State.{State}
@@ -101,7 +97,7 @@ begins_none : (first : List ℕ) (rest : List ℕ) → first ++ rest ≡ [] → 
 begins_none [] rest is = refl
 begins_none (x ∷ xs) rest is = absurd (cc)
 
-only_one : (one spell : Spell) → Contains (one ∷ []) spell → spell ≡ one
+pub only_one : (one spell : Spell) → Contains (one ∷ []) spell → spell ≡ one
 only_one one spell (zero, within, is) = sym is
 only_one one spell (suc i, within, is) = absurd (omega arith)
 
@@ -122,15 +118,7 @@ left_standing config links left wrong h =
     let session : bound.session ≡ session_with (Bind 0 ∷ Leave 0 ∷ []) [] no_message = same_Some _ _ (sym bound.has ∙ wrong.session) in
     none-some _ (sym (ap (λ (x : SessionLeft). (state_of x.entries).bound) session) ∙ bound.bound)
 
--- what begins with more than all is none
-begins_past : (first more rest : List ℕ) (byte : ℕ) → (first ++ byte ∷ more) ++ rest ≡ first → ⊥
-begins_past first more rest byte is =
-    let long = length-append (first ++ byte ∷ more) rest in
-    let front = length-append first (byte ∷ more) in
-    let same = ap length is in
-    omega arith
-
-no_pieces : (pieces rest : List CutPiece) → pieces ++ rest ≡ [] → pieces ≡ []
+pub no_pieces : (pieces rest : List CutPiece) → pieces ++ rest ≡ [] → pieces ≡ []
 no_pieces [] rest is = refl
 no_pieces (x ∷ xs) rest is = absurd (cc)
 
@@ -140,32 +128,6 @@ never_came config links left at h =
     let none = no_pieces cut.pieces cut.handed_out.begin.rest cut.handed_out.begin.is in
     let count : ◌≡◌ {A = ℕ} 1 0 = cut.handed_out.garbled ∙ ap (λ (pieces : List CutPiece). sum_by garbled_in pieces) none in
     omega (arith, count)
-
-handled_nothing : (c : ConnRecord) (pieces : List CutPiece) → c.taken ≡ [] → AreHandedOut c pieces → pieces ≡ []
-handled_nothing c pieces none out = no_pieces pieces out.begin.rest (out.begin.is ∙ ap (λ (bytes : List ℕ). (cut LONGEST_FRAME bytes).pieces) none)
-
-pub more_than_logon : IsRefuted TakesMoreThanItsLogon
-more_than_logon config links left wrong h =
-    let acts = h.acts 0 wrong.session wrong.has in
-    let d = handled_of 0 [] in
-    let listed = acts.all 0 wrong.c wrong.at wrong.names in
-    let numbers = length-map acts.handled (λ (x : Handled). x.connection) in
-    let i = listed.0 in
-    let within : i < length acts.handled = (let small = listed.1 in omega arith) in
-    let one = get_or acts.handled i d in
-    let number : one.connection ≡ number_at left 0 = sym (get_or-map (λ (x : Handled). x.connection) acts.handled i d (number_at left 0) within) ∙ listed.2 in
-    let of = acts.each i d within in
-    let place : of.connection.place ≡ 0 =
-    h.numbered.apart of.connection.place 0 (slice_get_within left.engine.connections of.connection.place of.connection.c of.connection.at) (slice_get_within left.engine.connections 0 wrong.c wrong.at) (of.connection.number_is ∙ number) in
-    let same : of.connection.c ≡ wrong.c = same_Some of.connection.c wrong.c (sym of.connection.at ∙ ap (slice_get left.engine.connections) place ∙ wrong.at) in
-    let none : of.pieces ≡ [] = handled_nothing of.connection.c of.pieces (ap (λ (c : ConnRecord). c.taken) same ∙ wrong.nothing_came) of.handed_out in
-    let bodies : one.bodies ≡ [] = of.good ∙ ap good_bodies none in
-    let logs = h.logons 0 wrong.session wrong.has i d within
-    (record { place = 0; c = wrong.c; at = wrong.at; number_is = sym number; names = wrong.names }) (let none_accepted = wrong.accepted in omega arith) in
-    let begun = logs.begins (ap (answers_logon (first_machines config 0).names logs.heart) bodies) in
-    let spell : logs.spell ≡ wrong.spell = only_one wrong.spell logs.spell (subst (λ (all : List Spell). Contains all logs.spell) wrong.spells logs.told) in
-    begins_past (first_in wrong.session wrong.spell) wrong.more begun.rest wrong.byte
-    (ap (λ (bytes : List ℕ). bytes ++ begun.rest) (sym wrong.took) ∙ begun.is ∙ ap (λ (x : Spell). first_in wrong.session x) spell)
 
 -- two notices that answer, one behind the other, answer two requests
 answers_one : (n : Notice) (ns : List Notice) → length (answered_by n) ≡ 1 → Contains ns n → 1 ≤ length (flat_map answered_by ns)

@@ -196,7 +196,7 @@ pub record TookItsText (left : RunRecord) (links : ℕ → Link) (place : ℕ) (
 abbrev pub LogsOnByIt : Config → (ℕ → Link) → RunRecord → ℕ → SessionLeft → Handled → Type 0
 LogsOnByIt config links left s session h =
     (has : HasConnection left s h.connection) → left.engine.accepted ≤ has.place
-    → LogsOn (first_machines config s) (spells_behind [] session.entries) (text_in session) (first_in session) h has.c (IsCutOff (links h.connection) has.c)
+    → LogsOn (first_machines config s) (spells_behind [] session.entries) session.outbound (text_in session) (first_in session) h has.c (IsCutOff (links h.connection) has.c)
 
 -- A reply of session s to a library is told by that session's journal; and that of a session which isn't configured by a stray.
 pub record IsReplyTold (left : RunRecord) (library s : ℕ) (reply : Notice) : Type 0 where

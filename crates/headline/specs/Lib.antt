@@ -6,3 +6,4 @@ pub mod Wrong
 pub mod Finished
 pub mod Within
 pub mod Dialled
+pub mod LogonsFirst

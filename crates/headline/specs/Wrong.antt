@@ -5,6 +5,7 @@ use Rattle.engine_config.specs.declared.config.Config.{Config}
 use Rattle.engine_end.specs.Records.{SessionLeft}
 use Rattle.gate_io.specs.Wire.{Link}
 use Rattle.headline.specs.Headline.{HasSession, Headline, first_in}
+use Rattle.lease_core.specs.State.{State as Totals, series_of}
 use Rattle.lease_core.specs.declared.entry.Entry.{Entry}
 use Rattle.lease_core.specs.declared.entry.Entry.TheVariants.{Admin, Arrive, Bind, Granted, Leave, Release, Send, Timeout}
 use Rattle.lease_core.specs.declared.entry.Why.TheVariants.{LeasesSpent}
@@ -16,7 +17,9 @@ use Rattle.run_report.specs.declared.calls.Call.{Call}
 use Rattle.run_report.specs.declared.calls.Call.TheVariants as calls
 use Rattle.run_report.specs.declared.records.LibReport.{LibReport}
 use Rattle.run_report.specs.declared.records.RunRecord.{RunRecord}
-use Rattle.session_book.specs.Spells.{Spell, spells_behind}
+use Rattle.session_book.specs.Spells.{Placed, Spell, placed, spells_behind}
+use Rattle.session_book.specs.Told.{IsLogged}
+use Rattle.session_core.specs.declared.acts.Admin.TheVariants.{Heartbeat}
 
 -- the headline holds of no record of which this is so
 abbrev pub IsRefuted : (RunRecord → Type 0) → Type 0
@@ -80,20 +83,48 @@ pub record WritesWhatIsNotTold (left : RunRecord) : Type 0 where
   pub session : HasSession left 0 (session_with (Bind 0 ∷ []) [] no_message)
   pub connection : slice_get left.engine.connections 0 ≡ Some (connection_with (codes "8=FIX.4.4"))
 
--- A dialled connection on which no answer came took more than the first item of the text that its session's journal tells.
-pub record TakesMoreThanItsLogon (left : RunRecord) : Type 0 where
-  pub session : SessionLeft
+-- Session 0 had one connection, which it dialled, and its journal tells this spell of it.
+pub record HasOneDialled (left : RunRecord) (session : SessionLeft) (spell : Spell) : Type 0 where
   pub has : HasSession left 0 session
   pub accepted : left.engine.accepted ≡ 0
   pub c : ConnRecord
   pub at : slice_get left.engine.connections 0 ≡ Some c
   pub names : c.session ≡ Some 0
-  pub nothing_came : c.taken ≡ []
-  pub spell : Spell
   pub spells : spells_behind [] session.entries ≡ spell ∷ []
+
+-- A dialled connection on which no answer came took more than the first item of the text that its session's journal tells.
+pub record TakesMoreThanItsLogon (left : RunRecord) : Type 0 where
+  pub session : SessionLeft
+  pub spell : Spell
+  pub dialled : HasOneDialled left session spell
+  pub nothing_came : dialled.c.taken ≡ []
   pub byte : ℕ
   pub more : List ℕ
-  pub took : c.written ≡ first_in session spell ++ byte ∷ more
+  pub took : dialled.c.written ≡ first_in session spell ++ byte ∷ more
+
+-- On a dialled connection a library's message comes before the Logon, so that the first item of its text is that message.
+pub record SendsBeforeItsLogon (left : RunRecord) : Type 0 where
+  pub session : SessionLeft
+  pub spell : Spell
+  pub dialled : HasOneDialled left session spell
+  pub before : Totals
+  pub lease : ℕ
+  pub library : ℕ
+  pub ordinal : ℕ
+  pub number : ℕ
+  pub later : List Placed
+  pub first : spell.entries ≡ placed before (Send lease library ordinal number) ∷ later
+
+-- A Heartbeat comes before the Logon.
+pub record BeatsBeforeItsLogon (left : RunRecord) : Type 0 where
+  pub session : SessionLeft
+  pub spell : Spell
+  pub dialled : HasOneDialled left session spell
+  pub before : Totals
+  pub number : ℕ
+  pub later : List Placed
+  pub first : spell.entries ≡ placed before (Admin number) ∷ later
+  pub beat : IsLogged session.outbound (series_of before) number (Heartbeat None)
 
 -- A connection stands and names a session whose journal has left it.
 pub record StandsWhereItWasLeft (left : RunRecord) : Type 0 where

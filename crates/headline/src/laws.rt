@@ -6,24 +6,27 @@ ghost use Rattle.engine_config.specs.Config.{IsConfig};
 ghost use Rattle.engine_config.specs.declared.config.Config.{Config};
 ghost use Rattle.engine_end.specs.Finishing.{GathersAll};
 ghost use Rattle.engine_end.specs.Records.{HasLawfulJournal};
+ghost use Rattle.engine_loop.specs.declared.engine.Engine.{Engine};
 ghost use Rattle.gate_io.specs.MemWire.{link_at};
 ghost use Rattle.gate_io.specs.Wire.{Door, Link};
 ghost use Rattle.headline.specs.Ends.{AllEndedWhole};
 ghost use Rattle.headline.specs.Finished.{IsFinished};
 ghost use Rattle.headline.specs.Headline.{Headline};
+ghost use Rattle.headline.specs.LogonsFirst.{LogonsComeFirst};
 ghost use Rattle.headline.specs.Numbering.{AreInOrder, IsInOrder};
-ghost use Rattle.headline.specs.Wrong.{AnswersUnbound, BindsNone, BindsOneTwice, BindsTwoAtOnce, CountsWhatNeverCame, GivesBackByItself, GivesBackWhatRuns, HasTwoOwners, IsRefuted, IsRepliedToTwice, LogsNoArrival, LogsNoNumber, LosesByNoWord, ReadsElsewhere, SendsByAnotherLease, ReadsPastEnd, SendsForAnother, ShareOneConnection, SkipsNumbers, StandsWhereItWasLeft, StraysAtHome, TakesBackFromNobody, TakesMoreThanItsLogon, WritesWhatIsNotTold};
+ghost use Rattle.headline.specs.Wrong.{AnswersUnbound, BeatsBeforeItsLogon, BindsNone, BindsOneTwice, BindsTwoAtOnce, CountsWhatNeverCame, GivesBackByItself, GivesBackWhatRuns, HasTwoOwners, IsRefuted, IsRepliedToTwice, LogsNoArrival, LogsNoNumber, LosesByNoWord, ReadsElsewhere, SendsByAnotherLease, ReadsPastEnd, SendsBeforeItsLogon, SendsForAnother, ShareOneConnection, SkipsNumbers, StandsWhereItWasLeft, StraysAtHome, TakesBackFromNobody, TakesMoreThanItsLogon, WritesWhatIsNotTold};
 ghost use Rattle.lease_core.specs.declared.entry.Entry.{Entry};
 ghost use Rattle.lease_desk.specs.declared.desk.LeaseDesk.{LeaseDesk};
 ghost use Rattle.library_desk.specs.declared.shared.Shared.{Shared};
 ghost use Rattle.run_laws.specs.Accounted.{IsAccountedRun};
 ghost use Rattle.run_report.specs.declared.records.RunRecord.{RunRecord};
-ghost use Rattle.script_run.specs.Means.{Means, StartsRun};
+ghost use Rattle.script_run.specs.Means.{Means, StartsEngineOf, StartsRun};
 ghost use Rattle.script_run.specs.Runs.{Carries, CarriesOut};
 ghost use Rattle.script_run.specs.declared.run.Run.{Run};
 ghost use Rattle.script_text.specs.declared.steps.Script.{Script};
 ghost use Rattle.script_text.specs.declared.steps.Step.{Step};
 ghost use Rattle.serve_laws.specs.Served.{AnyReadings};
+ghost use Rattle.serve_run.specs.Drives.{Drive, DrivesFor};
 ghost use Rattle.serve_run.specs.Serves.{Serves};
 ghost use Rattle.session_core.specs.State.{State};
 
@@ -31,14 +34,18 @@ use engine_laws::laws::{
     accounts_are_whole, happenings_are_accounted_for, lines_are_accounted_for,
     sessions_are_accounted_for, steps_are_accounted_for,
 };
-use lease_core::laws::{holdings_adjoin, lines_tell_deeds, one_owner_at_a_time};
+use lease_core::laws::{
+    entries_decide_one_by_one, holdings_adjoin, lines_tell_deeds, one_owner_at_a_time,
+};
 use library_api::replies_close_requests;
 use library_desk::laws::serving_happens;
+use message_log::entries_stay;
 use run_laws::laws::{
     engines_are_accounted_for, kept_calls_tell, libraries_live, runs_are_accounted_for, runs_go_on,
     scripts_are_accounted_for,
 };
 use serve_laws::laws::{drives_are_accounted_for, served_scripts_are_accounted_for};
+use session_book::laws::acts_are_told;
 use switchboard::laws::boards_go_on;
 use text_laws::laws::texts_are_taken;
 
@@ -74,6 +81,23 @@ pub fn connections_end_whole()
     runs_are_accounted_for();
 }
 
+/// In the journal of a session that dials the Bind of each connection is directly followed by the Logon by which the
+/// session asked: as an engine begins, over the steps of a script and the turns of a run that is served, and as each
+/// session is gathered at its end.
+pub fn logons_come_first()
+    ensures first { (config : Config) (moment : ℕ) (shared : Shared) (engine : Engine) → StartsEngineOf config moment shared engine → LogonsComeFirst engine.sessions.desk.board }
+    ensures carries_out { (steps : List Step) (count : ℕ) (old new : Run) → CarriesOut steps count old new → LogonsComeFirst old.engine.sessions.desk.board → LogonsComeFirst new.engine.sessions.desk.board }
+    ensures drives { (connections libraries count : ℕ) (old new : Drive) → DrivesFor connections libraries count old new
+        → LogonsComeFirst old.at.engine.sessions.desk.board → LogonsComeFirst new.at.engine.sessions.desk.board }
+    ensures gathers { (at until : ℕ) (old new : LeaseDesk) → GathersAll at until old new → LogonsComeFirst old.board → LogonsComeFirst new.board }
+{
+    entries_stay();
+    entries_decide_one_by_one();
+    acts_are_told();
+    boards_go_on();
+    serving_happens();
+}
+
 /// The headline holds of each record that serving a script leaves, however the threads came between one another, where its journals are those
 /// of registries and nothing had come at the wire before; and the wire tells of the connections what it does then.
 pub fn served_headlines_hold()
@@ -86,6 +110,7 @@ pub fn served_headlines_hold()
 {
     connections_are_numbered();
     connections_end_whole();
+    logons_come_first();
     boards_go_on();
     accounts_are_whole();
     happenings_are_accounted_for();
@@ -112,6 +137,7 @@ pub fn headlines_hold()
 {
     connections_are_numbered();
     connections_end_whole();
+    logons_come_first();
     accounts_are_whole();
     happenings_are_accounted_for();
     sessions_are_accounted_for();
@@ -141,6 +167,8 @@ pub fn wrong_records_are_refuted()
     ensures not_there { IsRefuted BindsNone }
     ensures not_told { IsRefuted WritesWhatIsNotTold }
     ensures more_than_logon { IsRefuted TakesMoreThanItsLogon }
+    ensures send_first { IsRefuted SendsBeforeItsLogon }
+    ensures beat_first { IsRefuted BeatsBeforeItsLogon }
     ensures left_standing { IsRefuted StandsWhereItWasLeft }
     ensures never_came { IsRefuted CountsWhatNeverCame }
     ensures twice { IsRefuted IsRepliedToTwice }

@@ -46,6 +46,7 @@ returns c = λ script left means fits journals.
     let numbers = c.connections_are_numbered.ensures in
     let in_order = numbers.carries_out script.steps count first last means.leads.carries (numbers.first config _ means.shared first means.starts) in
     let ends = c.connections_end_whole.ensures in
+    let logons = c.logons_come_first.ensures in
     meets_headline config last.engine (link_at last.wire) (map seat_of last.callers.items) (map report_of last.callers.items) left leaves (laws c) last.wire.dialled
     (record {
       fits = fits;
@@ -60,6 +61,8 @@ returns c = λ script left means fits journals.
           (numbers.gathers at until _ leaves.gathered leaves.gathers last.wire.accepted last.wire.dialled in_order.connections);
       ended = ends.gathers at until _ leaves.gathered leaves.gathers
           (ends.carries_out no_entries start script.steps count first last means.leads.carries began (ends.first config _ means.shared first means.starts));
+      firsts = logons.gathers at until _ leaves.gathered leaves.gathers
+          (logons.carries_out script.steps count first last means.leads.carries (logons.first config _ means.shared first.engine means.starts.engine));
       journals = journals;
       reported = c.scripts_are_accounted_for.ensures.reported no_entries start config.asks last left leaves run.libraries lived;
     })

@@ -19,6 +19,7 @@ use Rattle.headline.proofs.laws.served_headlines_hold.Goals as goal
 use Rattle.headline.specs.Ends.{AllEndedWhole}
 use Rattle.headline.specs.Finished.{IsFinished}
 use Rattle.headline.specs.Headline.{Headline}
+use Rattle.headline.specs.LogonsFirst.{LogonsComeFirst}
 use Rattle.headline.specs.Numbering.{AreInOrder}
 use Rattle.lease_core.specs.declared.entry.Entry.{Entry}
 use Rattle.run_laws.specs.Accounted.{first_machines, no_entries}
@@ -102,6 +103,12 @@ module _ (c : goal.After-served_scripts_are_accounted_for) (script : Script) (tu
       })
       (first_ended config moment serves.shared serves.first serves.starts))
 
+  last_firsts : LogonsComeFirst serves.last.sessions.desk.board
+  last_firsts =
+      subst (λ (a : AtWire). LogonsComeFirst a.engine.sessions.desk.board) serves.drives.at
+      (c.logons_come_first.ensures.drives (connections_of config) config.libraries serves.drives.count begin serves.drives.last serves.drives.drives
+      (c.logons_come_first.ensures.first config moment serves.shared serves.first serves.starts))
+
   counted : is.engine.accepted ≡ new.accepted
   counted = ap (λ (e : Engine). e.accepted) is.has_met ∙ last_order.counted
 
@@ -123,6 +130,7 @@ module _ (c : goal.After-served_scripts_are_accounted_for) (script : Script) (tu
         libraries = is.libraries;
         order = order;
         ended = gathered_whole (length is.engine.sessions.desk.board.sessions) is.engine.moment (until_of is.engine) _ is.leaves.gathered is.leaves.gathers (subst AllEndedWhole (sym same) last_ended);
+        firsts = c.logons_come_first.ensures.gathers is.engine.moment (until_of is.engine) _ is.leaves.gathered is.leaves.gathers (subst LogonsComeFirst (sym same) last_firsts);
         journals = journals;
         reported = is.reported;
       })
