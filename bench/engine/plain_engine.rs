@@ -1,8 +1,11 @@
 //! The steps of `engine_speed` in plain Rust, each once and with no more than it needs: the bytes of a
 //! connection are kept and cut into frames, sums are checked, fields are read, the orders' bodies kept and
 //! handed to a library through a queue, the library's reports are checked, kept and numbered, and their
-//! frames written, all in one thread. `plain_engine N` answers N orders and prints how many nanoseconds it
-//! took.
+//! frames written. It prints how many nanoseconds it took: `plain_engine orders N` to answer N orders in one
+//! thread, `plain_engine apart N` to answer N orders with the library in a thread of its own, and
+//! `plain_engine sessions N` a thousand turns with N sessions that are logged on and 16 libraries, all of
+//! which rest.
+use std::sync::atomic::{AtomicBool, AtomicU64, Ordering};
 use std::sync::mpsc::{Receiver, SyncSender, TrySendError, sync_channel};
 use std::time::Instant;
 
@@ -14,6 +17,12 @@ const MOST_READ: usize = 4_096;
 const MOST_WRITTEN: usize = 1_048_576;
 const NOTICES: usize = 256;
 const LANE: usize = 16;
+const LIBRARIES: usize = 16;
+const COMMANDS: usize = 256;
+const RESTING_TURNS: u64 = 1_000;
+const MORNING: u64 = 1_767_605_400_000;
+const HEART: u64 = 30_000;
+const TIMEOUT: u64 = 5_000;
 
 fn sum(bytes: &[u8]) -> u8 {
     bytes.iter().fold(0, |sum, byte| sum.wrapping_add(*byte))
@@ -33,9 +42,14 @@ fn put_frame(out: &mut Vec<u8>, kind: &[u8], us: &str, them: &str, number: u64, 
     out.extend_from_slice(format!("10={sum:03}\x01").as_bytes());
 }
 
-fn morning(orders: u64) -> Vec<u8> {
+fn logon(them: &str) -> Vec<u8> {
     let mut input = Vec::new();
-    put_frame(&mut input, b"35=A\x01", "BUYER0", "GATE", 1, b"98=0\x01108=30\x01");
+    put_frame(&mut input, b"35=A\x01", them, "GATE", 1, b"98=0\x01108=30\x01");
+    input
+}
+
+fn morning(orders: u64) -> Vec<u8> {
+    let mut input = logon("BUYER0");
     for k in 0..orders {
         put_frame(&mut input, b"35=D\x01", "BUYER0", "GATE", k + 2, ORDER);
     }
@@ -95,6 +109,7 @@ enum Entry {
 
 #[derive(Default)]
 struct Engine {
+    them: String,
     input: Vec<u8>,
     at: usize,
     taken: Vec<u8>,
@@ -108,11 +123,27 @@ struct Engine {
     text: Vec<u8>,
     written: Vec<u8>,
     wire: Vec<u8>,
+    heard_at: u64,
+    sent_at: u64,
 }
 
 impl Engine {
+    fn new(them: String, input: Vec<u8>, room: usize) -> Engine {
+        Engine {
+            them,
+            input,
+            wire: Vec::with_capacity(room),
+            heard_at: MORNING,
+            sent_at: MORNING,
+            ..Engine::default()
+        }
+    }
+
     fn read(&mut self) {
         let end = self.input.len().min(self.at + MOST_READ);
+        if self.at == end {
+            return;
+        }
         let piece = &self.input[self.at..end];
         self.at = end;
         self.taken.extend_from_slice(piece);
@@ -129,7 +160,7 @@ impl Engine {
 
     fn handle(&mut self, body: &[u8]) {
         let fields = read_fields(body);
-        assert!(first(&fields, 49) == b"BUYER0" && first(&fields, 56) == b"GATE");
+        assert!(first(&fields, 49) == self.them.as_bytes() && first(&fields, 56) == b"GATE");
         assert!(number(first(&fields, 34)) == self.expected + 1);
         self.expected += 1;
         if first(&fields, 35) == b"A" {
@@ -161,22 +192,33 @@ impl Engine {
         }
     }
 
+    // Whether a Heartbeat or a TestRequest is due.
+    fn is_due(&self, now: u64) -> bool {
+        now >= self.sent_at + HEART || now >= self.heard_at + 2 * HEART
+    }
+
     fn write(&mut self) {
+        if self.sent == self.outbound.len() {
+            return;
+        }
         self.text.clear();
         while self.sent < self.outbound.len() && self.text.len() < MOST_WRITTEN {
             let body = &self.outbound[self.sent].1;
             self.sent += 1;
-            put_frame(&mut self.text, &body[..5], "GATE", "BUYER0", self.sent as u64, &body[5..]);
+            put_frame(&mut self.text, &body[..5], "GATE", &self.them, self.sent as u64, &body[5..]);
         }
         self.wire.extend_from_slice(&self.text);
         self.written.extend_from_slice(&self.text);
     }
 
-    fn turn(&mut self, notices: &SyncSender<Vec<u8>>, lane: &Receiver<Vec<u8>>) {
+    // Makes a turn, and says whether something was read or written.
+    fn turn(&mut self, notices: &SyncSender<Vec<u8>>, lane: &Receiver<Vec<u8>>) -> bool {
+        let before = (self.at, self.sent);
         self.gather(lane);
         self.read();
         self.pump(notices);
         self.write();
+        before != (self.at, self.sent)
     }
 }
 
@@ -200,18 +242,134 @@ fn answer_all(engine: &mut Engine, count: usize) {
     }
 }
 
-fn main() {
-    let count: usize = std::env::args().nth(1).expect("a count").parse().expect("a number");
+// The library's side: it answers so many orders.
+fn answer_in_turn(orders: &Receiver<Vec<u8>>, reports: &SyncSender<Vec<u8>>, count: usize) {
+    let mut answered = 0;
+    while answered < count {
+        let Some(mut report) = answer(orders) else {
+            std::thread::yield_now();
+            continue;
+        };
+        while let Err(TrySendError::Full(back)) = reports.try_send(report) {
+            report = back;
+            std::thread::yield_now();
+        }
+        answered += 1;
+    }
+}
+
+fn answer_apart(engine: &mut Engine, count: usize) {
+    let (notices, orders) = sync_channel(NOTICES);
+    let (reports, lane) = sync_channel(LANE);
+    let over = &AtomicBool::new(false);
+    std::thread::scope(|scope| {
+        scope.spawn(move || {
+            answer_in_turn(&orders, &reports, count);
+            over.store(true, Ordering::SeqCst);
+        });
+        loop {
+            let last = over.load(Ordering::SeqCst);
+            if engine.turn(&notices, &lane) {
+                continue;
+            }
+            if last {
+                break;
+            }
+            std::thread::yield_now();
+        }
+    });
+}
+
+// How many nanoseconds it takes to answer so many orders.
+fn orders(count: usize, answer_all: fn(&mut Engine, usize)) -> u128 {
     let room = count * 256 + 256;
-    let mut engine = Engine {
-        input: morning(count as u64),
-        wire: Vec::with_capacity(room),
-        ..Engine::default()
-    };
+    let mut engine = Engine::new("BUYER0".to_string(), morning(count as u64), room);
     let start = Instant::now();
     answer_all(&mut engine, count);
     let time = start.elapsed();
     assert!(engine.outbound.len() == count + 1 && engine.inbound.len() == count);
     assert!(engine.wire == engine.written && engine.taken == engine.input);
-    println!("{}", time.as_nanos());
+    time.as_nanos()
+}
+
+// A session with its lane.
+struct Session {
+    engine: Engine,
+    lane: Receiver<Vec<u8>>,
+    _reports: SyncSender<Vec<u8>>,
+}
+
+// A library: its beat, when that last rose, and its commands.
+struct Library {
+    beat: AtomicU64,
+    seen: u64,
+    since: u64,
+    commands: Receiver<u64>,
+    _asks: SyncSender<u64>,
+}
+
+impl Library {
+    fn is_silent(&mut self, now: u64) -> bool {
+        let beat = self.beat.load(Ordering::SeqCst);
+        if beat != self.seen {
+            self.seen = beat;
+            self.since = now;
+        }
+        now >= self.since + TIMEOUT
+    }
+}
+
+fn turn_all(sessions: &mut [Session], libraries: &mut [Library], now: u64) {
+    for session in sessions.iter_mut() {
+        session.engine.read();
+    }
+    for session in sessions.iter_mut() {
+        session.engine.gather(&session.lane);
+        assert!(!session.engine.is_due(now));
+    }
+    for library in libraries {
+        assert!(!library.is_silent(now) && library.commands.try_recv().is_err());
+    }
+    for session in sessions {
+        session.engine.write();
+    }
+}
+
+// How many nanoseconds a thousand turns take with so many sessions that rest.
+fn rest(count: usize) -> u128 {
+    let session = |s: usize| {
+        let them = format!("B{s:02}");
+        let input = logon(&them);
+        let (reports, lane) = sync_channel(LANE);
+        let engine = Engine::new(them, input, 4_096);
+        Session { engine, lane, _reports: reports }
+    };
+    let library = |_| {
+        let (asks, commands) = sync_channel(COMMANDS);
+        Library { beat: AtomicU64::new(0), seen: 0, since: MORNING, commands, _asks: asks }
+    };
+    let mut sessions: Vec<Session> = (0..count).map(session).collect();
+    let mut libraries: Vec<Library> = (0..LIBRARIES).map(library).collect();
+    turn_all(&mut sessions, &mut libraries, MORNING);
+    assert!(sessions.iter().all(|session| session.engine.sent == 1));
+    let start = Instant::now();
+    for _ in 0..RESTING_TURNS {
+        turn_all(&mut sessions, &mut libraries, std::hint::black_box(MORNING));
+    }
+    let time = start.elapsed();
+    assert!(sessions.iter().all(|session| session.engine.sent == 1));
+    time.as_nanos()
+}
+
+fn main() {
+    let mut words = std::env::args().skip(1);
+    let kind = words.next().expect("a kind");
+    let count: usize = words.next().expect("a count").parse().expect("a number");
+    let time = match kind.as_str() {
+        "orders" => orders(count, answer_all),
+        "apart" => orders(count, answer_apart),
+        "sessions" => rest(count),
+        _ => panic!("say orders, apart or sessions"),
+    };
+    println!("{time}");
 }

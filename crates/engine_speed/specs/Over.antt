@@ -1,5 +1,5 @@
 -- An engine over a wire in memory.
-use Rattle.std.specs.Prelude.{◌≡◌, ℕ}
+use Rattle.std.specs.Prelude.{◌≡◌}
 use Rattle.engine_loop.specs.Engines.{IsEngine}
 use Rattle.engine_loop.specs.declared.engine.Engine.{Engine}
 use Rattle.gate_io.specs.MemWire.{WireState, door_of, link_at}

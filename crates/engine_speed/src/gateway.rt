@@ -1,15 +1,16 @@
-//! An engine over a wire in memory.
+//! An engine over a wire in memory, as any configuration has it or with one session and one library.
 
-ghost use Rattle.std.specs.Prelude.{◌≡◌, ◌≤◌, ◌<◌, ◌∷◌, [], IfOk, OnOk, Some, length, slice_get};
+ghost use Rattle.std.specs.Prelude.{◌≡◌, ◌≤◌, ◌<◌, ◌∷◌, [], ℕ, IfOk, OnOk, Some, length, slice_get};
 ghost use Rattle.engine_config.specs.Config.{IsConfig};
 ghost use Rattle.engine_speed.specs.Over.{IsOver, IsUntouched};
 ghost use Rattle.engine_start.specs.Starts.{AreLibraryEnds};
+ghost use Rattle.engine_start.specs.declared.ends.LibraryEnds.{LibraryEnds as TheEnds};
 ghost use Rattle.gate_io.specs.MemWire.{IsMade};
 
 use crate::texts::MORNING;
-use anyhow::Context;
+use anyhow::{Context, bail};
 use engine_config::Config;
-use engine_loop::Engine;
+use engine_loop::{Engine, Turn};
 use engine_start::LibraryEnds;
 use gate_io::{Bytes, MOST_CONNECTIONS, MemWire, NoMemory, Rows, StepClock};
 use library_desk::Shared;
@@ -25,15 +26,13 @@ pub struct Gateway {
 }
 
 impl Gateway {
-    /// Makes a turn. Answers how many bytes it wrote.
-    pub fn turn(&mut self, alloc: Global, shared: &Shared) -> Result<u64, NoMemory>
+    /// Makes a turn.
+    pub fn turn(&mut self, alloc: Global, shared: &Shared) -> Result<Turn, NoMemory>
         requires over { IsOver shared.now self.old.engine self.old.wire }
         ensures over { IsOver shared.now self.new.engine self.new.wire }
     {
-        let turn = self
-            .engine
-            .turn(alloc, shared, &mut self.wire, &mut self.clock)?;
-        Ok(turn.written)
+        self.engine
+            .turn(alloc, shared, &mut self.wire, &mut self.clock)
     }
 
     /// Makes so many turns. Answers how many bytes they wrote.
@@ -43,9 +42,21 @@ impl Gateway {
     {
         let mut written = 0u64;
         for _turn in 0..count {
-            written = written.wrapping_add(self.turn(alloc, shared)?);
+            written = written.wrapping_add(self.turn(alloc, shared)?.written);
         }
         Ok(written)
+    }
+
+    /// How many messages the outbound log of the first session has as the run ends.
+    pub fn end(self, alloc: Global, shared: &Shared) -> Result<u64, anyhow::Error>
+        requires over { IsOver shared.now self.engine self.wire }
+    {
+        let Gateway { engine, .. } = self;
+        let Ok(left) = engine.finish(alloc, shared, Vec::new(alloc)) else {
+            bail!("the run did not end")
+        };
+        let session = left.sessions.as_slice().first().context("a session")?;
+        Ok(session.outbound.len())
     }
 }
 
@@ -87,6 +98,27 @@ fn wire(alloc: Global, connections: u32, input: &[u8], room: usize) -> Result<Me
     Ok(wire)
 }
 
+/// A gateway that made no turn, over a wire of which nothing was accepted, what it shares with its libraries,
+/// and their ends.
+pub fn begin(
+    alloc: Global,
+    config: Config,
+    wire: MemWire,
+) -> Result<(Gateway, Shared, Vec<LibraryEnds>), NoMemory>
+    requires config { IsConfig config }
+    requires wire { IsUntouched wire }
+    ensures over { IfOk result (λ made. IsOver made.1 made.0.engine made.0.wire) }
+    ensures ends { IfOk result (λ made. (j : ℕ) (e : TheEnds) → slice_get made.2.items j ≡ Some e → AreLibraryEnds made.1 j e) }
+{
+    let (engine, shared, ends) = engine_loop::start(alloc, config, MORNING)?;
+    let gateway = Gateway {
+        engine,
+        wire,
+        clock: StepClock::new(MORNING),
+    };
+    Ok((gateway, shared, ends))
+}
+
 /// A gateway that made no turn, what it shares with its library, and the library's ends.
 pub fn open(
     alloc: Global,
@@ -100,12 +132,7 @@ pub fn open(
     ensures ends { IfOk result (λ made. AreLibraryEnds made.1 0 made.2) }
 {
     let wire = wire(alloc, connections, input, room)?;
-    let (engine, shared, ends) = engine_loop::start(alloc, config(alloc)?, MORNING)?;
+    let (gateway, shared, ends) = begin(alloc, config(alloc)?, wire)?;
     let ends = ends.into_iter().next().context("a library")?;
-    let gateway = Gateway {
-        engine,
-        wire,
-        clock: StepClock::new(MORNING),
-    };
     Ok((gateway, shared, ends))
 }
