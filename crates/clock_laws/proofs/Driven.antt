@@ -1,28 +1,33 @@
 -- Over the turns of a run that is served sessions and connections stay in time, up to a moment that the clock told.
-use Rattle.std.proofs.Common.{◌≡◌, inl, inr, ℕ, zero, suc, ◌<◌, ◌≤◌, List, [], ◌∷◌, ◌++◌, get_or, length, map, Option, None, refl, sym, ap, subst, ◌∙◌, arith}
+use Rattle.std.proofs.Common.{◌≡◌, inl, inr, ℕ, zero, suc, ◌+◌, ◌<◌, ◌≤◌, List, [], ◌∷◌, ◌++◌, get_or, length, map, Option, None, refl, sym, ap, subst, ◌∙◌, arith}
 use Rattle.std.proofs.lemmas.Bool.{cases_lt}
-use Rattle.std.proofs.lemmas.List.Elements.{All-append, All-filter, All-from_get_or, All-map, All-nil, All-weaker}
+use Rattle.std.proofs.lemmas.List.Elements.{All-append, All-cons, All-contains, All-filter, All-from_get_or, All-head, All-map, All-nil, All-tail, All-weaker}
 use Rattle.std.proofs.lemmas.Option.{none-some}
 use Rattle.std.specs.List.{All}
 use Rattle.std.specs.Prelude.{max, min, not}
-use Rattle.clock_laws.proofs.Lines.{AreInTime, IsInTime, later_line}
+use Rattle.clock_laws.proofs.InTurn.{each_in_turn}
+use Rattle.clock_laws.proofs.Journals.{AreTimely, IsTimely}
+use Rattle.clock_laws.proofs.Lines.{AreInTime, IsInTime, IsTold, later_line}
 use Rattle.clock_laws.proofs.Opened.{AreOpened, IsOff}
 use Rattle.clock_laws.proofs.Phases.{HasHeard}
-use Rattle.clock_laws.proofs.Walk.{ClockLaws, IsClockedAt, each_in_turn, turn_clocked, turn_moment}
+use Rattle.clock_laws.proofs.Walk.{ClockLaws, IsClockedEngine, turn_clocked, turn_moment}
 use Rattle.clock_laws.specs.Kept.{moment_at}
+use Rattle.clock_laws.specs.TakenBack.{TimedOutInTime}
 use Rattle.clock_laws.specs.Waited.{EndedInTime}
 use Rattle.connection_core.specs.Connection.{ConnectionState}
 use Rattle.connection_core.specs.Record.{record_of}
 use Rattle.engine_config.specs.declared.config.Config.{Config}
-use Rattle.engine_end.specs.Records.{accepted_of, connection_records, dialled_of}
+use Rattle.engine_end.specs.Records.{SessionLeft, accepted_of, connection_records, dialled_of, left_in, left_of}
 use Rattle.engine_loop.specs.declared.engine.Engine.{Engine}
 use Rattle.engine_start.specs.Starts.{StartsSessions}
 use Rattle.gate_io.specs.Clock.{greatest_of}
 use Rattle.gate_io.specs.declared.clocks.TheConstants.{LAST_MOMENT}
 use Rattle.lease_core.specs.declared.entry.Entry.{Entry}
+use Rattle.lease_core.specs.declared.entry.Entry.TheVariants.{Timeout}
 use Rattle.serve_run.specs.Drives.{Drive, DrivesFor, DrivesOn, DrivesOnce}
 use Rattle.session_book.specs.Book.{Book}
 use Rattle.session_book.specs.Kept.{Kept}
+use Rattle.session_book.specs.declared.reads.SessionRecord.{SessionRecord}
 use Rattle.session_core.specs.State.{State}
 use Rattle.session_core.specs.declared.causes.Cause.TheVariants.{Silent}
 use Rattle.switchboard.specs.Board.{Board, book_at, no_session, place_at}
@@ -62,10 +67,15 @@ module _ (start : ℕ → State) (first : ℕ) (config : Config) (board : Board)
     | inr past ↦ past_all board.places s (let places = starts.first.places in omega arith)
   ]
 
-  pub first_in_time : AreInTime start first first board
+  first_told : (s : ℕ) → s < length board.sessions → IsTold start first config.timeout first (get_or board.sessions s no_session)
+  first_told s within =
+      subst (λ (book : Book). AreTimely first config.timeout first book.entries) (sym (starts.books s (subst (λ n. s < n) starts.count within))) (All-nil (IsTimely first config.timeout first))
+
+  pub first_in_time : AreInTime start first config.timeout first board
   first_in_time = record {
-    lines = subst (All (IsInTime start first first)) (sym starts.first.connections) (All-nil (IsInTime start first first));
+    lines = subst (All (IsInTime start first config.timeout first)) (sym starts.first.connections) (All-nil (IsInTime start first config.timeout first));
     machines = All-from_get_or (λ (kept : Kept). HasHeard first first kept.book.machine) board.sessions no_session first_heard;
+    journals = All-from_get_or (IsTold start first config.timeout first) board.sessions no_session first_told;
   }
 
   pub first_opened : AreOpened board
@@ -74,23 +84,23 @@ module _ (start : ℕ → State) (first : ℕ) (config : Config) (board : Board)
     opened = λ s k placed. absurd (none-some k (sym (unplaced s) ∙ placed));
   }
 
-module _ (before : ℕ → List Entry) (start : ℕ → State) (first : ℕ) (g : ClockLaws before start) where
+module _ (before : ℕ → List Entry) (start : ℕ → State) (first timeout : ℕ) (g : ClockLaws before start) where
   -- The engine's moment isn't before the first one, and is no greater than the greatest that the clock told.
   pub record IsClockedDrive (reading : ℕ) (drive : Drive) : Type 0 where
     pub begun : first ≤ drive.at.engine.moment
-    pub clocked : IsClockedAt before start first g drive.at.engine.moment drive.at.engine.sessions.desk.board
+    pub clocked : IsClockedEngine before start first timeout g drive.at.engine.moment drive.at.engine
     pub told : drive.at.engine.moment ≤ moment_at (greatest_of (reading ∷ drive.readings))
 
   drove_once : (reading : ℕ) (old new : Drive) → DrivesOnce old new → IsClockedDrive reading old → IsClockedDrive reading new
   drove_once reading old new is was =
       let one = is.makes in
-      let made : one.made.engine.moment ≡ max old.at.engine.moment (min is.reading LAST_MOMENT) = turn_moment before start first g is.reading old.at one.made is.turn one.makes in
+      let made : one.made.engine.moment ≡ max old.at.engine.moment (min is.reading LAST_MOMENT) = turn_moment before start first timeout g is.reading old.at one.made is.turn one.makes in
       let moment : new.at.engine.moment ≡ max old.at.engine.moment (min is.reading LAST_MOMENT) = ap (λ (e : Engine). e.moment) one.engine ∙ made in
       let begun = was.begun in
       record {
         begun = omega arith;
-        clocked = subst (λ (e : Engine). IsClockedAt before start first g e.moment e.sessions.desk.board) (sym one.engine)
-            (turn_clocked before start first g is.reading old.at one.made is.turn one.makes was.begun was.clocked);
+        clocked = subst (λ (e : Engine). IsClockedEngine before start first timeout g e.moment e) (sym one.engine)
+            (turn_clocked before start first timeout g is.reading old.at one.made is.turn one.makes was.begun was.clocked);
         told = told_further old.at.engine.moment new.at.engine.moment is.reading reading (greatest_of old.readings) (greatest_of new.readings) LAST_MOMENT moment
             (ap greatest_of is.readings_are ∙ greatest_more old.readings is.reading) was.told;
       }
@@ -100,12 +110,29 @@ module _ (before : ℕ → List Entry) (start : ℕ → State) (first : ℕ) (g 
       each_in_turn (λ i. DrivesOn connections libraries) (λ a b. IsClockedDrive reading a → IsClockedDrive reading b) (λ d so. so) (λ a b c one two so. two (one so)) (λ i a b on. drove_once reading a b on.drives) count old new is was
 
 -- what the records of connections that are in time have
-line_record : (start : ℕ → State) (first at last : ℕ) → at ≤ last → (c : ConnectionState) → IsInTime start first at c → EndedInTime start first last (record_of c)
-line_record start first at last up_to c was since is = (later_line start first at last up_to c was).ended (Silent since) is since refl
+line_record : (start : ℕ → State) (first timeout at last : ℕ) → at ≤ last → (c : ConnectionState) → IsInTime start first timeout at c → EndedInTime start first last (record_of c)
+line_record start first timeout at last up_to c was since is = (later_line start first timeout at last up_to c was).ended (Silent since) is since refl
 
-pub lines_recorded : (start : ℕ → State) (first at last : ℕ) → at ≤ last → (cs : List ConnectionState) → All (IsInTime start first at) cs → All (EndedInTime start first last) (connection_records cs)
-lines_recorded start first at last up_to cs all =
-    let each = All-weaker (IsInTime start first at) (λ (c : ConnectionState). EndedInTime start first last (record_of c)) (line_record start first at last up_to) cs all in
+pub lines_recorded : (start : ℕ → State) (first timeout at last : ℕ) → at ≤ last → (cs : List ConnectionState) → All (IsInTime start first timeout at) cs → All (EndedInTime start first last) (connection_records cs)
+lines_recorded start first timeout at last up_to cs all =
+    let each = All-weaker (IsInTime start first timeout at) (λ (c : ConnectionState). EndedInTime start first last (record_of c)) (line_record start first timeout at last up_to) cs all in
     All-append (EndedInTime start first last) (map record_of (accepted_of cs)) (map record_of (dialled_of cs))
     (All-map (EndedInTime start first last) record_of (accepted_of cs) (All-filter (λ (c : ConnectionState). not c.dialled) (λ (c : ConnectionState). EndedInTime start first last (record_of c)) cs each))
     (All-map (EndedInTime start first last) record_of (dialled_of cs) (All-filter (λ (c : ConnectionState). c.dialled) (λ (c : ConnectionState). EndedInTime start first last (record_of c)) cs each))
+
+-- what the records of sessions have whose journals tell nothing too early
+session_record : (first timeout at last : ℕ) → at ≤ last → (r : SessionRecord) → AreTimely first timeout at r.registry.entries → TimedOutInTime first last timeout r
+session_record first timeout at last up_to r all lease library count told = (
+    let timely : first + timeout ≤ at = All-contains (IsTimely first timeout at) r.registry.entries (Timeout lease library count) all told in
+    omega arith)
+
+all_mapped : {X Y : Type 0} (P : Y → Type 0) (f : X → Y) (xs : List X) → All P (map f xs) → All (λ x. P (f x)) xs
+all_mapped P f [] all = All-nil (λ x. P (f x))
+all_mapped P f (x ∷ xs) all = All-cons (λ x. P (f x)) x xs (All-head P (f x) (map f xs) all) (all_mapped P f xs (All-tail P (f x) (map f xs) all))
+
+pub sessions_recorded : (start : ℕ → State) (first timeout at last : ℕ) → at ≤ last → (sessions : List Kept) (records : List SessionRecord) → map left_in records ≡ map left_of sessions
+    → All (IsTold start first timeout at) sessions → All (TimedOutInTime first last timeout) records
+sessions_recorded start first timeout at last up_to sessions records left all =
+    let Timely : SessionLeft → Type 0 = λ s. AreTimely first timeout at s.entries in
+    All-weaker (λ (r : SessionRecord). Timely (left_in r)) (TimedOutInTime first last timeout) (session_record first timeout at last up_to) records
+    (all_mapped Timely left_in records (subst (All Timely) (sym left) (All-map Timely left_of sessions all)))

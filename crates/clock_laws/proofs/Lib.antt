@@ -1,7 +1,10 @@
 mod Phases
 mod Books
 mod Causes
+mod Journals
+mod InTurn
 mod Lines
+mod Libraries
 mod Opened
 mod Waits
 mod Walk

@@ -1,16 +1,18 @@
 -- What each happening makes of sessions and connections: each connection came at a moment that isn't before the first one, and one that ended since nothing came
--- was waited for.
-use Rattle.std.proofs.Common.{◌≡◌, ℕ, zero, suc, ◌<◌, ◌≤◌, true, false, List, [], ◌∷◌, get_or, length, set, Option, None, Some, refl, sym, ap, subst, ◌∙◌, arith}
+-- was waited for; and no journal tells too early of a lease that was taken back.
+use Rattle.std.proofs.Common.{◌≡◌, ℕ, zero, suc, ◌+◌, ◌<◌, ◌≤◌, true, false, List, [], ◌∷◌, get_or, length, set, Option, None, Some, refl, sym, ap, subst, ◌∙◌, arith}
 use Rattle.std.proofs.lemmas.List.Elements.{All-cons, All-head, All-nil, All-push, All-tail, All-weaker}
 use Rattle.std.proofs.lemmas.Option.{none-some, same_Some}
 use Rattle.std.specs.List.{All}
 use Rattle.std.specs.Prelude.{IsNone, unwrap_or}
 use Rattle.clock_laws.proofs.Books.{IsSameButSent, binding_same, dial_same, message_same, same_heard, same_itself, ticking_same, timeout_same, word_same}
 use Rattle.clock_laws.proofs.Causes.{is_silent, message_inner}
+use Rattle.clock_laws.proofs.Journals.{AreTimely, IsTimely, binding_timely, dial_timely, end_timely, lapse_timely, later_entry, message_timely, request_timely, ticking_timely, timeout_timely, word_shown_timely}
 use Rattle.clock_laws.proofs.Phases.{HasHeard, ask_heard, later_heard, leave_heard, receive_heard, tick_heard}
 use Rattle.clock_laws.specs.Waited.{HasWaited, messages_of, wait_by}
 use Rattle.connection_core.specs.Connection.{ConnectionState, after_end, after_next, after_taking, fresh, fresh_dial}
 use Rattle.connection_core.specs.Outgoing.{no_outgoing}
+use Rattle.lease_core.specs.declared.entry.Entry.{Entry}
 use Rattle.session_book.specs.Acts.{after_binding, after_dial}
 use Rattle.session_book.specs.Book.{Book, Desk, with_outbox}
 use Rattle.session_book.specs.Kept.{Kept}
@@ -32,7 +34,7 @@ all_set P none (y ∷ ys) (suc k) x becomes all = All-cons P y (set ys k x) (All
 pub later_waited : (first at later since wait : ℕ) → at ≤ later → HasWaited first at since wait → HasWaited first later since wait
 later_waited first at later since wait up_to was = record { begun = was.begun; waited = (let waited = was.waited in omega arith); some = was.some }
 
-module _ (start : ℕ → State) (first : ℕ) where
+module _ (start : ℕ → State) (first timeout : ℕ) where
   -- where the connection ends by this cause, it was waited for
   abbrev pub EndsInTime : ℕ → Cause → ConnectionState → Type 0
   EndsInTime at cause c = (since : ℕ) → cause ≡ Silent since → HasWaited first at since (wait_by start c.session (messages_of c.taken))
@@ -41,18 +43,27 @@ module _ (start : ℕ → State) (first : ℕ) where
     pub came : first ≤ c.since
     pub ended : (cause : Cause) → c.cause ≡ Some cause → EndsInTime at cause c
 
-  -- so it is of each connection, and each session has heard
+  -- no entry of the session's journal tells too early of a lease that was taken back
+  abbrev pub IsTold : ℕ → Kept → Type 0
+  IsTold at kept = AreTimely first timeout at kept.book.entries
+
+  -- so it is of each connection, each session has heard, and so is each journal
   pub record AreInTime (at : ℕ) (board : Board) : Type 0 where
     pub lines : All (IsInTime at) board.connections
     pub machines : All (λ (kept : Kept). HasHeard first at kept.book.machine) board.sessions
+    pub journals : All (IsTold at) board.sessions
 
   pub later_line : (at later : ℕ) → at ≤ later → (c : ConnectionState) → IsInTime at c → IsInTime later c
   later_line at later up_to c was = record { came = was.came; ended = λ cause is since silent. later_waited first at later since _ up_to (was.ended cause is since silent) }
+
+  later_told : (at later : ℕ) → at ≤ later → (kept : Kept) → IsTold at kept → IsTold later kept
+  later_told at later up_to kept = All-weaker (IsTimely first timeout at) (IsTimely first timeout later) (later_entry first timeout at later up_to) kept.book.entries
 
   pub later_all : (at later : ℕ) (board : Board) → at ≤ later → AreInTime at board → AreInTime later board
   later_all at later board up_to was = record {
     lines = All-weaker (IsInTime at) (IsInTime later) (later_line at later up_to) board.connections was.lines;
     machines = All-weaker (λ (kept : Kept). HasHeard first at kept.book.machine) (λ (kept : Kept). HasHeard first later kept.book.machine) (λ kept. later_heard first at later kept.book.machine up_to) board.sessions was.machines;
+    journals = All-weaker (IsTold at) (IsTold later) (later_told at later up_to) board.sessions was.journals;
   }
 
   module _ (at : ℕ) (within : first ≤ at) where
@@ -68,8 +79,11 @@ module _ (start : ℕ → State) (first : ℕ) where
     abbrev MachinesGoOn : Board → Board → Type 0
     MachinesGoOn old new = Heard old → Heard new
 
-    both : (old new : Board) → LinesGoOn old new → MachinesGoOn old new → GoesOnInTime old new
-    both old new lines machines was = record { lines = lines was.lines; machines = machines was.machines }
+    abbrev JournalsGoOn : Board → Board → Type 0
+    JournalsGoOn old new = All (IsTold at) old.sessions → All (IsTold at) new.sessions
+
+    all_three : (old new : Board) → LinesGoOn old new → MachinesGoOn old new → JournalsGoOn old new → GoesOnInTime old new
+    all_three old new lines machines journals was = record { lines = lines was.lines; machines = machines was.machines; journals = journals was.journals }
 
     pub unchanged : (old new : Board) → new ≡ old → GoesOnInTime old new
     unchanged old new same was = subst (AreInTime at) (sym same) was
@@ -110,35 +124,52 @@ module _ (start : ℕ → State) (first : ℕ) where
     same_sessions : (old new : Board) → new.sessions ≡ old.sessions → MachinesGoOn old new
     same_sessions old new same all = subst (All (λ (kept : Kept). HasHeard first at kept.book.machine)) (sym same) all
 
+    -- entries stay timely, where they are these
+    abbrev pub StayTimely : List Entry → List Entry → Type 0
+    StayTimely entries more = AreTimely first timeout at entries → AreTimely first timeout at more
+
+    one_journal : (s : ℕ) (old new : Board) (book : Book) → new.sessions ≡ set old.sessions s (session_at new s) → book_at new s ≡ book → StayTimely (book_at old s).entries book.entries → JournalsGoOn old new
+    one_journal s old new book changes is stay all =
+        subst (All (IsTold at)) (sym changes)
+        (all_set (IsTold at) no_session old.sessions s (session_at new s) (λ within_it was. subst (λ (b : Book). AreTimely first timeout at b.entries) (sym is) (stay was)) all)
+
+    same_journals : (old new : Board) → new.sessions ≡ old.sessions → JournalsGoOn old new
+    same_journals old new same all = subst (All (IsTold at)) (sym same) all
+
     -- the book of a session becomes this one, whose machine is so but for the last sending
     becomes : (s : ℕ) (old new : Board) (desk : Desk) (machine : State) → book_at new s ≡ desk.book → IsSameButSent desk.book.machine machine → HasHeard first at machine → HasHeard first at (book_at new s).machine
     becomes s old new desk machine is same heard = subst (λ (book : Book). HasHeard first at book.machine) (sym is) (same_heard first at desk.book.machine machine same heard)
 
     changing : (k : ℕ) (c : ConnectionState) (old new : Board) → ConnectionChanges k c old new → (IsInTime at (connection_at old k) → IsInTime at c) → GoesOnInTime old new
     changing k c old new changes line =
-        both old new (one_line k c old new (ap (λ (b : Board). b.connections) changes.others) (λ within_it. line)) (same_sessions old new (ap (λ (b : Board). b.sessions) changes.others))
+        all_three old new (one_line k c old new (ap (λ (b : Board). b.connections) changes.others) (λ within_it. line)) (same_sessions old new (ap (λ (b : Board). b.sessions) changes.others))
+        (same_journals old new (ap (λ (b : Board). b.sessions) changes.others))
 
     going : (s : ℕ) (desk : Desk) (machine : State) (old new : Board) → SessionGoesOn s old new → desk_at new s ≡ desk → IsSameButSent desk.book.machine machine
-        → (HasHeard first at (book_at old s).machine → HasHeard first at machine) → GoesOnInTime old new
-    going s desk machine old new goes is same heard =
-        both old new (outboxes _ old new goes.others.connections)
+        → (HasHeard first at (book_at old s).machine → HasHeard first at machine) → StayTimely (book_at old s).entries desk.book.entries → GoesOnInTime old new
+    going s desk machine old new goes is same heard stay =
+        all_three old new (outboxes _ old new goes.others.connections)
         (one_session s old new goes.others.sessions (λ was. becomes s old new desk machine (ap (λ (d : Desk). d.book) is) same (heard was)))
+        (one_journal s old new desk.book goes.others.sessions (ap (λ (d : Desk). d.book) is) stay)
 
-    alone : (s : ℕ) (book : Book) (old new : Board) → BookChanges s book old new → book.machine ≡ (book_at old s).machine → GoesOnInTime old new
-    alone s book old new changes same =
-        both old new (same_lines old new (ap (λ (b : Board). b.connections) changes.others))
+    alone : (s : ℕ) (book : Book) (old new : Board) → BookChanges s book old new → book.machine ≡ (book_at old s).machine → StayTimely (book_at old s).entries book.entries → GoesOnInTime old new
+    alone s book old new changes same stay =
+        all_three old new (same_lines old new (ap (λ (b : Board). b.connections) changes.others))
         (one_session s old new (ap (λ (b : Board). b.sessions) changes.others)
         (λ was. subst (HasHeard first at) (sym (ap (λ (b : Book). b.machine) changes.becomes ∙ same)) was))
+        (one_journal s old new book (ap (λ (b : Board). b.sessions) changes.others) changes.becomes stay)
 
     binding_to : (s k : ℕ) (body : List ℕ) (old new : Board) → BindsTo s k body at old new → GoesOnInTime old new
     binding_to s k body old new is =
-        both old new
+        all_three old new
         (one_line k (connection_at new k) old new is.plugged.connections
         (λ within_it was. stands_on (connection_at new k) (subst (λ n. first ≤ n) (sym (ap (λ (c : ConnectionState). c.since) is.connection)) was.came)
         (subst IsNone (sym (ap (λ (c : ConnectionState). c.cause) is.connection)) is.stands)))
         (one_session s old new is.plugged.sessions
         (λ was. becomes s old new (after_binding at (connection_at old k).number body (desk_with old s (Some k))) (after_receive (book_at old s).machine body at) (ap (λ (d : Desk). d.book) is.desk) (binding_same at (connection_at old k).number body (desk_with old s (Some k)))
         (receive_heard first at within (book_at old s).machine body was)))
+        (one_journal s old new (after_binding at (connection_at old k).number body (desk_with old s (Some k))).book is.plugged.sessions (ap (λ (d : Desk). d.book) is.desk)
+        (binding_timely first timeout at at (connection_at old k).number body (desk_with old s (Some k))))
 
     -- where a connection may end by this cause
     abbrev pub MayEnd : Board → ℕ → Cause → Type 0
@@ -149,16 +180,17 @@ module _ (start : ℕ → State) (first : ℕ) where
 
     pub leaving : (s k : ℕ) (cause : Cause) (old new : Board) → MayEnd old k cause → EndsBound s k cause old new → GoesOnInTime old new
     leaving s k cause old new may is =
-        both old new
+        all_three old new
         (one_line k (connection_at new k) old new is.unplugged.connections
         (λ within_it was. subst (IsInTime at) (sym is.connection) (one_ends (connection_at old k) cause (connection_at old k).cause refl (may within_it) was)))
         (one_session s old new is.unplugged.sessions
         (λ was. subst (λ (book : Book). HasHeard first at book.machine) (sym is.book) (leave_heard first at within (book_at old s).machine was)))
+        (one_journal s old new _ is.unplugged.sessions is.book (end_timely first timeout at (connection_at old k).number (book_at old s)))
 
     pub refused : (k : ℕ) (cause : Cause) (old new : Board) → MayEnd old k cause → EndsUnbound k cause old new → GoesOnInTime old new
     refused k cause old new may is = changing k _ old new is.changes (one_ends (connection_at old k) cause (connection_at old k).cause refl (may is.changes.within))
 
-    -- no connection ends by it, and its moment is this one
+    -- No connection ends by it, its moment is this one, and no session is taken back before the timeout has passed.
     abbrev pub IsCalm : Happening → Type 0
     IsCalm (accepts number moment) = moment ≡ at
     IsCalm (dials s number moment) = moment ≡ at
@@ -166,25 +198,29 @@ module _ (start : ℕ → State) (first : ℕ) where
     IsCalm (binds_and_ends s k body moment cause) = moment ≡ at
     IsCalm (receives s k body moment) = moment ≡ at
     IsCalm (ticks s moment) = moment ≡ at
+    IsCalm (times_out s w bodies moment until) = first + timeout ≤ at
     IsCalm (ends_unbound k cause) = ⊥
     IsCalm (ends_bound s k cause) = ⊥
     IsCalm _ = Unit {0}
 
     accepted : (number : ℕ) (old new : Board) → Happens (accepts number at) old new → GoesOnInTime old new
     accepted number old new is =
-        both old new
+        all_three old new
         (λ all. subst (All (IsInTime at)) (sym (ap (λ (b : Board). b.connections) is.connection))
         (All-push (IsInTime at) old.connections (fresh number at (connection_at new (length old.connections)).out) all (record { came = within; ended = λ cause none. absurd (none-some cause none) })))
         (same_sessions old new (ap (λ (b : Board). b.sessions) is.connection))
+        (same_journals old new (ap (λ (b : Board). b.sessions) is.connection))
 
     dialled : (s number : ℕ) (old new : Board) → Happens (dials s number at) old new → GoesOnInTime old new
     dialled s number old new is =
-        both old new
+        all_three old new
         (λ all. subst (All (IsInTime at)) (sym is.connection)
         (All-push (IsInTime at) old.connections (fresh_dial number at s (connection_at new (length old.connections)).out) all (record { came = within; ended = λ cause none. absurd (none-some cause none) })))
         (one_session s old new is.sessions
         (λ was. becomes s old new (after_dial at number (with_outbox (book_at old s) no_outgoing)) (after_ask (book_at old s).machine at) (ap (λ (d : Desk). d.book) is.desk) (dial_same at number (with_outbox (book_at old s) no_outgoing))
         (ask_heard first at within (book_at old s).machine was)))
+        (one_journal s old new (after_dial at number (with_outbox (book_at old s) no_outgoing)).book is.sessions (ap (λ (d : Desk). d.book) is.desk)
+        (dial_timely first timeout at at number (with_outbox (book_at old s) no_outgoing)))
 
     ended_bound : (s k : ℕ) (body : List ℕ) (cause : Cause) (old new : Board) → Happens (binds_and_ends s k body at cause) old new → GoesOnInTime old new
     ended_bound s k body cause old new is was =
@@ -193,10 +229,12 @@ module _ (start : ℕ → State) (first : ℕ) where
     received : (s k : ℕ) (body : List ℕ) (old new : Board) → Happens (receives s k body at) old new → GoesOnInTime old new
     received s k body old new is =
         going s _ (after_receive (book_at old s).machine body at) old new is.goes_on is.desk (message_same at body (desk_at old s)) (receive_heard first at within (book_at old s).machine body)
+        (message_timely first timeout at at body (desk_at old s))
 
     ticked : (s : ℕ) (old new : Board) → Happens (ticks s at) old new → GoesOnInTime old new
     ticked s old new is =
         going s _ (after_tick (book_at old s).machine at) old new is.goes_on is.desk (ticking_same at (desk_at old s)) (tick_heard first at within (book_at old s).machine)
+        (ticking_timely first timeout at at (desk_at old s))
 
     pub calm : (happening : Happening) (old new : Board) → IsCalm happening → Happens happening old new → GoesOnInTime old new
     calm (accepts number moment) old new now is = accepted number old new (subst (λ n. Happens (accepts number n) old new) now is)
@@ -210,15 +248,17 @@ module _ (start : ℕ → State) (first : ℕ) where
     calm (ticks s moment) old new now is = ticked s old new (subst (λ n. Happens (ticks s n) old new) now is)
     calm (shows s w bodies moment until) old new now is =
         going s _ (book_at old s).machine old new is.goes_on is.desk (word_same moment until w bodies (desk_at old s)) (λ was. was)
+        (word_shown_timely first timeout at moment until w bodies (desk_at old s))
     calm (times_out s w bodies moment until) old new now is =
         going s _ (book_at old s).machine old new is.goes_on is.desk (timeout_same moment until w bodies (desk_at old s)) (λ was. was)
-    calm (requests s library nr from) old new now is = alone s _ old new is refl
-    calm (lapses s) old new now is = alone s _ old new is refl
+        (timeout_timely first timeout at now moment until w bodies (desk_at old s))
+    calm (requests s library nr from) old new now is = alone s _ old new is refl (request_timely first timeout at library nr from (book_at old s))
+    calm (lapses s) old new now is = alone s _ old new is refl (lapse_timely first timeout at (book_at old s))
     calm (ends_unbound k cause) old new now is = absurd now
     calm (ends_bound s k cause) old new now is = absurd now
     calm (prepares s k) old new now is = changing k _ old new is.changes (same_but_out k old new)
     calm (writes k n) old new now is = changing k _ old new is.changes (same_but_out k old new)
-    calm (reserves s) old new now is = going s _ (book_at old s).machine old new is.goes_on is.desk (same_itself (book_at old s).machine) (λ was. was)
+    calm (reserves s) old new now is = going s _ (book_at old s).machine old new is.goes_on is.desk (same_itself (book_at old s).machine) (λ was. was) (λ all. all)
 
     pub reached : (happenings : List Happening) (old new : Board) → All IsCalm happenings → Reaches happenings old new → GoesOnInTime old new
     reached [] old new all same = unchanged old new same

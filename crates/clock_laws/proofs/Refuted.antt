@@ -1,9 +1,10 @@
 -- Records that don't keep time.
-use Rattle.std.proofs.Common.{◌≡◌, ℕ, ◌+◌, ◌<◌, List, ◌∷◌, Option, ap, subst, arith}
+use Rattle.std.proofs.Common.{◌≡◌, ℕ, ◌+◌, ◌<◌, ◌≤◌, List, ◌∷◌, Option, ap, subst, arith}
 use Rattle.std.proofs.lemmas.List.Elements.{All-contains}
 use Rattle.clock_laws.specs.Kept.{KeepsTime, moment_at}
+use Rattle.clock_laws.specs.TakenBack.{TimedOutInTime}
 use Rattle.clock_laws.specs.Waited.{EndedInTime, HasWaited, messages_of, wait_by}
-use Rattle.clock_laws.specs.Wrong.{HasSilent, IsCutOffEarly, IsRefuted, IsSilentBefore, StandsStill}
+use Rattle.clock_laws.specs.Wrong.{HasSilent, HasTimeout, IsCutOffEarly, IsRefuted, IsRefutedWith, IsSilentBefore, IsTakenBackAtOnce, IsTakenBackEarly, StandsStill}
 use Rattle.connection_core.specs.declared.limits.TheConstants.{LOGON_WAIT}
 use Rattle.connection_core.specs.declared.records.ConnRecord.{ConnRecord}
 use Rattle.engine_config.specs.declared.config.Config.{Config}
@@ -38,3 +39,22 @@ early_refuted config reading readings left wrong keeps =
     too_early (moment_at reading) (moment_at (greatest_of (reading ∷ readings))) wrong.since LOGON_WAIT wrong.early
     (subst (λ (session : Option ℕ). HasWaited (moment_at reading) (moment_at (greatest_of (reading ∷ readings))) wrong.since (wait_by (first_machines config) session (messages_of wrong.c.taken))) wrong.unbound
     (waited config reading readings left wrong.since wrong.c wrong.silent keeps))
+
+timed_out : (config : Config) (reading : ℕ) (readings : List ℕ) (left : RunRecord) → HasTimeout left → KeepsTime config reading readings left
+    → moment_at reading + config.timeout ≤ moment_at (greatest_of (reading ∷ readings))
+timed_out config reading readings left has keeps =
+    All-contains (TimedOutInTime (moment_at reading) (moment_at (greatest_of (reading ∷ readings))) config.timeout) left.engine.sessions has.session keeps.timeouts has.there has.lease has.library has.count has.told
+
+no_timeout : (first last timeout : ℕ) → last ≡ first → 1 ≤ timeout → first + timeout ≤ last → ⊥
+no_timeout first last timeout same some passed = omega arith
+
+early_timeout : (first last timeout : ℕ) → last < first + timeout → first + timeout ≤ last → ⊥
+early_timeout first last timeout early passed = omega arith
+
+pub at_once_refuted : IsRefutedWith IsTakenBackAtOnce
+at_once_refuted config reading readings left wrong keeps =
+    no_timeout (moment_at reading) (moment_at (greatest_of (reading ∷ readings))) config.timeout (ap moment_at wrong.still) wrong.some (timed_out config reading readings left wrong.taken_back keeps)
+
+pub taken_early_refuted : IsRefutedWith IsTakenBackEarly
+taken_early_refuted config reading readings left wrong keeps =
+    early_timeout (moment_at reading) (moment_at (greatest_of (reading ∷ readings))) config.timeout wrong.early (timed_out config reading readings left wrong.taken_back keeps)

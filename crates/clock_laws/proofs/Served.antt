@@ -1,9 +1,10 @@
 -- What a script that is served leaves keeps time.
-use Rattle.std.proofs.Common.{◌≡◌, ℕ, ◌≤◌, Bool, [], ◌∷◌, length, Option, sym, ap, subst, arith}
+use Rattle.std.proofs.Common.{◌≡◌, ℕ, ◌≤◌, Bool, [], ◌∷◌, length, Option, refl, sym, ap, subst, arith}
 use Rattle.std.specs.List.{All}
 use Rattle.std.specs.Prelude.{min}
-use Rattle.clock_laws.proofs.Driven.{IsClockedDrive, drove_for, first_in_time, first_opened, lines_recorded, told_first}
-use Rattle.clock_laws.proofs.Walk.{ClockLaws, IsClockedAt, gathered_clocked}
+use Rattle.clock_laws.proofs.Driven.{IsClockedDrive, drove_for, first_in_time, first_opened, lines_recorded, sessions_recorded, told_first}
+use Rattle.clock_laws.proofs.Libraries.{first_watched}
+use Rattle.clock_laws.proofs.Walk.{ClockLaws, IsClockedAt, IsClockedEngine, gathered_clocked}
 use Rattle.clock_laws.specs.Kept.{KeepsTime, moment_at}
 use Rattle.clock_laws.specs.Waited.{EndedInTime}
 use Rattle.engine_laws.specs.Account.{IsAccountedFor}
@@ -34,26 +35,32 @@ module _ (script : Script) (turns : ℕ) (wide : Bool) (old new : Door) (old_lin
   abbrev first : ℕ
   first = min serves.reading LAST_MOMENT
 
+  abbrev timeout : ℕ
+  timeout = config.timeout
+
   abbrev last : ℕ
   last = moment_at (greatest_of (serves.reading ∷ serves.drives.last.readings))
 
-  begun : IsClockedDrive no_entries start first g serves.reading (drive_of (at_wire serves.first old old_links) [] [])
+  begun : IsClockedDrive no_entries start first timeout g serves.reading (drive_of (at_wire serves.first old old_links) [] [])
   begun =
       let moment = serves.starts.figures.moment in
       record {
         begun = subst (λ n. first ≤ n) (sym moment) (omega arith);
-        clocked = subst (λ n. IsClockedAt no_entries start first g n serves.first.sessions.desk.board) (sym moment)
+        clocked = subst (λ n. IsClockedEngine no_entries start first timeout g n serves.first) (sym moment)
             (record {
-              ready = account.ready;
-              account = subst (λ n. IsAccountedFor no_entries start n serves.first.sessions.desk.board) moment account.account;
-              in_time = first_in_time start first config serves.first.sessions.desk.board serves.starts.sessions;
-              opened = first_opened start first config serves.first.sessions.desk.board serves.starts.sessions;
+              board = record {
+                ready = account.ready;
+                account = subst (λ n. IsAccountedFor no_entries start n serves.first.sessions.desk.board) moment account.account;
+                in_time = first_in_time start first config serves.first.sessions.desk.board serves.starts.sessions;
+                opened = first_opened start first config serves.first.sessions.desk.board serves.starts.sessions;
+              };
+              watched = first_watched first timeout config serves.shared serves.first.sessions refl serves.starts.desk serves.starts.ends;
             });
         told = subst (λ n. n ≤ moment_at (greatest_of (serves.reading ∷ []))) (sym moment) (told_first serves.reading LAST_MOMENT);
       }
 
-  driven : IsClockedDrive no_entries start first g serves.reading serves.drives.last
-  driven = drove_for no_entries start first g serves.reading (connections_of config) config.libraries serves.drives.count (drive_of (at_wire serves.first old old_links) [] []) serves.drives.last serves.drives.drives begun
+  driven : IsClockedDrive no_entries start first timeout g serves.reading serves.drives.last
+  driven = drove_for no_entries start first timeout g serves.reading (connections_of config) config.libraries serves.drives.count (drive_of (at_wire serves.first old old_links) [] []) serves.drives.last serves.drives.drives begun
 
   last_begun : first ≤ serves.last.moment
   last_begun = subst (λ (a : AtWire). first ≤ a.engine.moment) serves.drives.at driven.begun
@@ -61,22 +68,26 @@ module _ (script : Script) (turns : ℕ) (wide : Bool) (old new : Door) (old_lin
   last_told : serves.last.moment ≤ last
   last_told = subst (λ (a : AtWire). a.engine.moment ≤ last) serves.drives.at driven.told
 
-  last_clocked : IsClockedAt no_entries start first g serves.last.moment serves.last.sessions.desk.board
-  last_clocked = subst (λ (a : AtWire). IsClockedAt no_entries start first g a.engine.moment a.engine.sessions.desk.board) serves.drives.at driven.clocked
+  last_clocked : IsClockedEngine no_entries start first timeout g serves.last.moment serves.last
+  last_clocked = subst (λ (a : AtWire). IsClockedEngine no_entries start first timeout g a.engine.moment a.engine) serves.drives.at driven.clocked
 
   -- meeting the libraries changes neither
-  met_clocked : IsClockedAt no_entries start first g is.engine.moment is.engine.sessions.desk.board
-  met_clocked = subst (λ (e : Engine). IsClockedAt no_entries start first g e.moment e.sessions.desk.board) (sym is.has_met) last_clocked
+  met_clocked : IsClockedAt no_entries start first timeout g is.engine.moment is.engine.sessions.desk.board
+  met_clocked = subst (λ (e : Engine). IsClockedAt no_entries start first timeout g e.moment e.sessions.desk.board) (sym is.has_met) last_clocked.board
 
   same_moment : is.engine.moment ≡ serves.last.moment
   same_moment = ap (λ (e : Engine). e.moment) is.has_met
 
-  gathered : IsClockedAt no_entries start first g is.engine.moment is.leaves.gathered.board
-  gathered = gathered_clocked no_entries start first g (length is.engine.sessions.desk.board.sessions) is.engine.moment (until_of is.engine) _ is.leaves.gathered
+  gathered : IsClockedAt no_entries start first timeout g is.engine.moment is.leaves.gathered.board
+  gathered = gathered_clocked no_entries start first timeout g (length is.engine.sessions.desk.board.sessions) is.engine.moment (until_of is.engine) _ is.leaves.gathered
       (subst (λ n. first ≤ n) (sym same_moment) last_begun) is.leaves.gathers met_clocked
+
+  same_told : is.engine.moment ≤ last
+  same_told = subst (λ n. n ≤ last) (sym same_moment) last_told
 
   pub keeps_time : KeepsTime config serves.reading serves.drives.last.readings left
   keeps_time = record {
     silent = subst (All (EndedInTime start first last)) (sym is.leaves.leaves.connections)
-        (lines_recorded start first is.engine.moment last (subst (λ n. n ≤ last) (sym same_moment) last_told) is.leaves.gathered.board.connections gathered.in_time.lines);
+        (lines_recorded start first timeout is.engine.moment last same_told is.leaves.gathered.board.connections gathered.in_time.lines);
+    timeouts = sessions_recorded start first timeout is.engine.moment last same_told is.leaves.gathered.board.sessions left.engine.sessions is.leaves.leaves.sessions gathered.in_time.journals;
   }

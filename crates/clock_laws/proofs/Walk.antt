@@ -1,5 +1,5 @@
--- Over the steps of a turn sessions and connections stay in time.
-use Rattle.std.proofs.Common.{◌≡◌, ◌≢◌, inl, inr, ℕ, zero, suc, ◌+◌, ◌<◌, ◌≤◌, Bool, true, false, List, [], ◌∷◌, ◌++◌, get_or, length, Option, None, Some, Result, Ok, Err, refl, sym, ap, subst, ◌∙◌, arith}
+-- Over the steps of a turn sessions and connections stay in time, and the libraries are watched.
+use Rattle.std.proofs.Common.{◌≡◌, ◌≢◌, inl, inr, ℕ, ◌+◌, ◌<◌, ◌≤◌, Bool, true, false, List, [], ◌∷◌, ◌++◌, get_or, length, Option, None, Some, Result, Ok, Err, refl, sym, ap, subst, ◌∙◌, arith}
 use Rattle.std.proofs.lemmas.Bool.{eq-eqb}
 use Rattle.std.proofs.lemmas.List.{get_or-set_same, length-set}
 use Rattle.std.proofs.lemmas.List.Elements.{All-cons, All-get_or, All-nil, All-weaker}
@@ -9,6 +9,8 @@ use Rattle.std.specs.Prelude.{IsNone, if◌then◌else◌, nat_lt, slice_index_o
 use Rattle.std.specs.Result.{result_ok}
 use Rattle.clock_laws.proofs.Books.{IsSameButSent, binding_same}
 use Rattle.clock_laws.proofs.Causes.{IsInnerErr, greeting_inner, is_silent, message_inner}
+use Rattle.clock_laws.proofs.InTurn.{each_in_turn}
+use Rattle.clock_laws.proofs.Libraries.{AreWatched, IsWatchedAlike, desk_alike, same_alike, served_in_time, served_watched, watched_alike}
 use Rattle.clock_laws.proofs.Lines as lines
 use Rattle.clock_laws.proofs.Lines.{AreInTime, GoesOnInTime, IsCalm, IsInTime, MayEnd, later_all}
 use Rattle.clock_laws.proofs.Opened as opening
@@ -65,13 +67,6 @@ use Rattle.wire_desk.specs.Steps.{AcceptsAs, Handles, HandlesAll, HandlesBody, H
 use Rattle.wire_desk.specs.declared.dialling.Dialler.{Dialler}
 use Rattle.wire_desk.specs.declared.written.Stop.{Stop}
 use Rattle.wire_desk.specs.declared.written.Stop.TheVariants.{AllTaken, Blocked, Failed, MostWritten}
-
--- steps of one kind, one after another, of something
-pub each_in_turn : {T : Type 0} (Step : ℕ → T → T → Type 0) (Keeps : T → T → Type 0) → ((t : T) → Keeps t t) → ((a b c : T) → Keeps a b → Keeps b c → Keeps a c) → ((i : ℕ) (a b : T) → Step i a b → Keeps a b)
-    → (n : ℕ) (old new : T) → InTurn Step n old new → Keeps old new
-each_in_turn Step Keeps itself further each zero old new same = subst (λ t. Keeps old t) (sym same) (itself old)
-each_in_turn Step Keeps itself further each (suc n) old new steps =
-    further old steps.0 new (each_in_turn Step Keeps itself further each n old steps.0 steps.1) (each n steps.0 new steps.2)
 
 -- what the laws of accounts say
 pub record ClockLaws (before : ℕ → List Entry) (start : ℕ → State) : Type 0 where
@@ -133,12 +128,12 @@ written_inner stop c why is = behind_inner c.cause stop c why is
 none_bind : (happening : Happening) → BindsNone happening → All BindsNone (happening ∷ [])
 none_bind happening is = All-cons BindsNone happening [] is (All-nil BindsNone)
 
-module _ (before : ℕ → List Entry) (start : ℕ → State) (first : ℕ) (g : ClockLaws before start) where
+module _ (before : ℕ → List Entry) (start : ℕ → State) (first timeout : ℕ) (g : ClockLaws before start) where
   -- Sessions and connections are accounted for up to a moment, and in time.
   pub record IsClocked (progress : ℕ → Progress) (at : ℕ) (board : Board) : Type 0 where
     pub ready : IsReady before board
     pub account : IsAccountedWith progress before start at board
-    pub in_time : AreInTime start first at board
+    pub in_time : AreInTime start first timeout at board
     pub opened : AreOpened board
 
   abbrev pub IsClockedAt : ℕ → Board → Type 0
@@ -148,7 +143,7 @@ module _ (before : ℕ → List Entry) (start : ℕ → State) (first : ℕ) (g 
   later_clocked at later board up_to was = record {
     ready = was.ready;
     account = (g.itself all_done later board).account before start at up_to was.ready was.account;
-    in_time = later_all start first at later board up_to was.in_time;
+    in_time = later_all start first timeout at later board up_to was.in_time;
     opened = was.opened;
   }
 
@@ -160,9 +155,9 @@ module _ (before : ℕ → List Entry) (start : ℕ → State) (first : ℕ) (g 
     Stays old new = Keeps all_done all_done old new
 
     abbrev InTime : Board → Board → Type 0
-    InTime old new = GoesOnInTime start first at within old new
+    InTime old new = GoesOnInTime start first timeout at within old new
 
-    by_account : (one two : ℕ → Progress) (old new : Board) → KeepsAccount one two at old new → (IsClocked one at old → AreInTime start first at new) → (IsClocked one at old → AreOpened new) → Keeps one two old new
+    by_account : (one two : ℕ → Progress) (old new : Board) → KeepsAccount one two at old new → (IsClocked one at old → AreInTime start first timeout at new) → (IsClocked one at old → AreOpened new) → Keeps one two old new
     by_account one two old new stays in_time opened was = record {
       ready = stays.ready before was.ready;
       account = stays.account before start at (omega arith) was.ready was.account;
@@ -174,7 +169,7 @@ module _ (before : ℕ → List Entry) (start : ℕ → State) (first : ℕ) (g 
     unchanged progress old new same was = subst (IsClocked progress at) (sym same) was
 
     abbrev Calm : Happening → Type 0
-    Calm happening = IsCalm start first at within happening
+    Calm happening = IsCalm start first timeout at within happening
 
     one_calm : (happening : Happening) → Calm happening → All Calm (happening ∷ [])
     one_calm happening is = All-cons Calm happening [] is (All-nil Calm)
@@ -182,7 +177,7 @@ module _ (before : ℕ → List Entry) (start : ℕ → State) (first : ℕ) (g 
     -- happenings by which no connection ends and no session is bound
     calm_at : (one two : ℕ → Progress) (happenings : List Happening) (old new : Board) → KeepsAccount one two at old new → All Calm happenings → All BindsNone happenings → Reaches happenings old new → Keeps one two old new
     calm_at one two happenings old new stays calm none is =
-        by_account one two old new stays (λ was. lines.reached start first at within happenings old new calm is was.in_time) (λ was. opened_reached happenings old new none is was.opened)
+        by_account one two old new stays (λ was. lines.reached start first timeout at within happenings old new calm is was.in_time) (λ was. opened_reached happenings old new none is was.opened)
 
     aside_at : (happenings : List Happening) (old new : Board) → All (IsAside at) happenings → All Calm happenings → All BindsNone happenings → Reaches happenings old new → Stays old new
     aside_at happenings old new aside calm none is = calm_at all_done all_done happenings old new (g.aside all_done at happenings old new aside is) calm none is
@@ -195,7 +190,7 @@ module _ (before : ℕ → List Entry) (start : ℕ → State) (first : ℕ) (g 
     gathered_in_time : (s until : ℕ) (old new : LeaseDesk) → Gathers s at until old new → InTime old.board new.board
     gathered_in_time s until old new is =
         let shown = shows s is.word (bodies_of is.items) at until in
-        lines.reached start first at within (reserves s ∷ shown ∷ []) old.board new.board (All-cons Calm (reserves s) (shown ∷ []) tt (one_calm shown tt)) is.reaches
+        lines.reached start first timeout at within (reserves s ∷ shown ∷ []) old.board new.board (All-cons Calm (reserves s) (shown ∷ []) tt (one_calm shown tt)) is.reaches
 
     gathered_opened : (s until : ℕ) (old new : LeaseDesk) → Gathers s at until old new → GoesOnOpened old.board new.board
     gathered_opened s until old new is =
@@ -207,20 +202,20 @@ module _ (before : ℕ → List Entry) (start : ℕ → State) (first : ℕ) (g 
         by_account progress progress old.board new.board (g.gathers progress s at until old new is) (λ was. gathered_in_time s until old new is was.in_time) (λ was. gathered_opened s until old new is was.opened)
 
     -- a connection ends
-    parted_in_time : (session : Option ℕ) (k : ℕ) (cause : Cause) (old new : Board) → MayEnd start first at within old k cause → Happens (parting session k cause) old new → InTime old new
-    parted_in_time None k cause old new may is = lines.refused start first at within k cause old new may is
-    parted_in_time (Some s) k cause old new may is = lines.leaving start first at within s k cause old new may is
+    parted_in_time : (session : Option ℕ) (k : ℕ) (cause : Cause) (old new : Board) → MayEnd start first timeout at within old k cause → Happens (parting session k cause) old new → InTime old new
+    parted_in_time None k cause old new may is = lines.refused start first timeout at within k cause old new may is
+    parted_in_time (Some s) k cause old new may is = lines.leaving start first timeout at within s k cause old new may is
 
     parted_opened : (session : Option ℕ) (k : ℕ) (cause : Cause) (old new : Board) → Happens (parting session k cause) old new → GoesOnOpened old new
     parted_opened None k cause old new is = opened_calm (ends_unbound k cause) old new tt is
     parted_opened (Some s) k cause old new is = opened_calm (ends_bound s k cause) old new tt is
 
-    parts_at : (session : Option ℕ) (k : ℕ) (cause : Cause) (old new : Board) → (IsClockedAt at old → MayEnd start first at within old k cause) → Happens (parting session k cause) old new → Stays old new
+    parts_at : (session : Option ℕ) (k : ℕ) (cause : Cause) (old new : Board) → (IsClockedAt at old → MayEnd start first timeout at within old k cause) → Happens (parting session k cause) old new → Stays old new
     parts_at session k cause old new may is =
         by_account all_done all_done old new (g.parts session k cause at old new is) (λ was. parted_in_time session k cause old new (may was) is was.in_time) (λ was. parted_opened session k cause old new is was.opened)
 
-    inner_may : (board : Board) (k : ℕ) (cause : Cause) → is_silent cause ≡ false → MayEnd start first at within board k cause
-    inner_may board k cause inner = lines.inner_may start first at within board k cause inner
+    inner_may : (board : Board) (k : ℕ) (cause : Cause) → is_silent cause ≡ false → MayEnd start first timeout at within board k cause
+    inner_may board k cause inner = lines.inner_may start first timeout at within board k cause inner
 
     -- the clock
     lapsed_once : (lapses_not : Bool) (s : ℕ) (old new : Board) → Reaches (if lapses_not then [] else lapses s ∷ []) old new → Stays old new
@@ -241,7 +236,7 @@ module _ (before : ℕ → List Entry) (start : ℕ → State) (first : ℕ) (g 
         let changes = subst (λ place. OutboxChanges place old new) placed is.goes_on.others.connections in
         ap (λ (cs : List ConnectionState). get_or cs k no_connection) changes.0 ∙ get_or-set_same old.connections k (record (connection_at old k) { out = (connection_at new k).out }) no_connection there
 
-    tick_waited : (s k : ℕ) (cause : Cause) (old new : Board) → place_at old s ≡ Some k → (tick (book_at old s).machine at).end ≡ Some cause → Happens (ticks s at) old new → IsClockedAt at old → MayEnd start first at within new k cause
+    tick_waited : (s k : ℕ) (cause : Cause) (old new : Board) → place_at old s ≡ Some k → (tick (book_at old s).machine at).end ≡ Some cause → Happens (ticks s at) old new → IsClockedAt at old → MayEnd start first timeout at within new k cause
     tick_waited s k cause old new placed ends is was there stands since silent =
         let machine = (book_at old s).machine in
         let here : s < length old.sessions = is.goes_on.within in
@@ -280,20 +275,20 @@ module _ (before : ℕ → List Entry) (start : ℕ → State) (first : ℕ) (g 
 
     answered_then : (s k : ℕ) (body : List ℕ) (is_one : Bool) (end : Option Cause) (old new : Board) → ((cause : Cause) → end ≡ Some cause → is_silent cause ≡ false)
         → Reaches (receives s k body at ∷ ((if is_one then answers k ∷ [] else []) ++ ending s (Some k) end)) old new → InTime old new
-    answered_then s k body true None old new inner is = lines.reached start first at within (receives s k body at ∷ answers k ∷ []) old new (All-cons Calm (receives s k body at) (answers k ∷ []) refl (one_calm (answers k) tt)) is
-    answered_then s k body false None old new inner is = lines.reached start first at within (receives s k body at ∷ []) old new (one_calm (receives s k body at) refl) is
+    answered_then s k body true None old new inner is = lines.reached start first timeout at within (receives s k body at ∷ answers k ∷ []) old new (All-cons Calm (receives s k body at) (answers k ∷ []) refl (one_calm (answers k) tt)) is
+    answered_then s k body false None old new inner is = lines.reached start first timeout at within (receives s k body at ∷ []) old new (one_calm (receives s k body at) refl) is
     answered_then s k body true (Some cause) old new inner is = λ was.
         let heard = is.0 in
         let told = is.1.1.0 in
         let last = is.1.1.1.1 in
-        lines.unchanged start first at within last.0 new last.1.1
-        (lines.leaving start first at within s k cause told last.0 (inner_may told k cause (inner cause refl)) last.1.0
-        (lines.calm start first at within (answers k) heard told tt is.1.1.1.0 (lines.calm start first at within (receives s k body at) old heard refl is.1.0 was)))
+        lines.unchanged start first timeout at within last.0 new last.1.1
+        (lines.leaving start first timeout at within s k cause told last.0 (inner_may told k cause (inner cause refl)) last.1.0
+        (lines.calm start first timeout at within (answers k) heard told tt is.1.1.1.0 (lines.calm start first timeout at within (receives s k body at) old heard refl is.1.0 was)))
     answered_then s k body false (Some cause) old new inner is = λ was.
         let heard = is.0 in
         let last = is.1.1 in
-        lines.unchanged start first at within last.0 new last.1.1
-        (lines.leaving start first at within s k cause heard last.0 (inner_may heard k cause (inner cause refl)) last.1.0 (lines.calm start first at within (receives s k body at) old heard refl is.1.0 was))
+        lines.unchanged start first timeout at within last.0 new last.1.1
+        (lines.leaving start first timeout at within s k cause heard last.0 (inner_may heard k cause (inner cause refl)) last.1.0 (lines.calm start first timeout at within (receives s k body at) old heard refl is.1.0 was))
 
     heard_at : (s k : ℕ) (body : List ℕ) (until : ℕ) (old new : LeaseDesk) (unkept_old unkept_new : List Pending) (end : Option Cause) → Hears s k body at until old new unkept_old unkept_new end
         → Keeps (only k (handling body)) (only k cutting) old.board new.board
@@ -305,8 +300,8 @@ module _ (before : ℕ → List Entry) (start : ℕ → State) (first : ℕ) (g 
 
     -- a first message
     bound_in_time : (s k : ℕ) (body : List ℕ) (end : Option Cause) (old new : Board) → Happens (binding s k body at end) old new → InTime old new
-    bound_in_time s k body None old new is = lines.calm start first at within (binds s k body at) old new refl is
-    bound_in_time s k body (Some cause) old new is = lines.calm start first at within (binds_and_ends s k body at cause) old new refl is
+    bound_in_time s k body None old new is = lines.calm start first timeout at within (binds s k body at) old new refl is
+    bound_in_time s k body (Some cause) old new is = lines.calm start first timeout at within (binds_and_ends s k body at cause) old new refl is
 
     -- the Logon is all that was handed out of the connection so far
     bound_here : (s k : ℕ) (body : List ℕ) (old new : Board) → Binds s k body at old new → IsReady before old → IsAccountedWith (only k (handling body)) before start at old → AreOpened old → IsOpenedAt new s k
@@ -343,7 +338,7 @@ module _ (before : ℕ → List Entry) (start : ℕ → State) (first : ℕ) (g 
         → GreetsAs found k body at until old new unkept_old unkept_new end → InTime old.board new.board
     greeted_in_time (Ok s) k body until old new unkept_old unkept_new end inner is = λ was.
         bound_in_time s k body end is.gathered.board new.board is.binds (gathered_in_time s until old is.gathered is.gathers was)
-    greeted_in_time (Err cause) k body until old new unkept_old unkept_new end inner is = lines.refused start first at within k cause old.board new.board (inner_may old.board k cause inner) is.ends
+    greeted_in_time (Err cause) k body until old new unkept_old unkept_new end inner is = lines.refused start first timeout at within k cause old.board new.board (inner_may old.board k cause inner) is.ends
 
     greeted_opened : (found : Result ℕ Cause) (k : ℕ) (body : List ℕ) (until : ℕ) (old new : LeaseDesk) (unkept_old unkept_new : List Pending) (end : Option Cause)
         → GreetsAs found k body at until old new unkept_old unkept_new end → IsClocked (only k (handling body)) at old.board → AreOpened new.board
@@ -368,7 +363,7 @@ module _ (before : ℕ → List Entry) (start : ℕ → State) (first : ℕ) (g 
     -- a piece is handed out
     given_at : (two : ℕ → Progress) (k : ℕ) (old new : Board) → Happens (gives k) old new → KeepsAccount (only k cutting) two at old new → Keeps (only k cutting) two old new
     given_at two k old new is stays =
-        by_account (only k cutting) two old new stays (λ was. lines.calm start first at within (gives k) old new tt is was.in_time) (λ was. opened_calm (gives k) old new tt is was.opened)
+        by_account (only k cutting) two old new stays (λ was. lines.calm start first timeout at within (gives k) old new tt is was.in_time) (λ was. opened_calm (gives k) old new tt is was.opened)
 
     piece_handled : (piece : CutPiece) (routes : Routes) (k until : ℕ) (old : Sessions) (given : LeaseDesk) (new : Sessions) → Happens (gives k) old.desk.board given.board → next_pieces (connection_at old.desk.board k) ≡ piece ∷ []
         → Handles piece routes k at until (sessions_of given old.unkept) new → Keeps (only k cutting) (only k cutting) old.desk.board new.desk.board
@@ -402,7 +397,7 @@ module _ (before : ℕ → List Entry) (start : ℕ → State) (first : ℕ) (g 
     same_at : (old new : Sessions) → new ≡ old → StaysOf old new
     same_at old new same = unchanged all_done old.desk.board new.desk.board (ap (λ (sessions : Sessions). sessions.desk.board) same)
 
-    parted_by : (k : ℕ) (cause : Cause) (old new : Sessions) → (IsClockedAt at old.desk.board → MayEnd start first at within old.desk.board k cause) → PartsBy k cause old new → StaysOf old new
+    parted_by : (k : ℕ) (cause : Cause) (old new : Sessions) → (IsClockedAt at old.desk.board → MayEnd start first timeout at within old.desk.board k cause) → PartsBy k cause old new → StaysOf old new
     parted_by k cause old new may is = parts_at (connection_at old.desk.board k).session k cause old.desk.board new.desk.board may is.parts
 
     read_as : (answer : WireGot) (routes : Routes) (k : ℕ) (buffer : List ℕ) (until : ℕ) (old new : Sessions) → ReadsAs answer routes k buffer at until old new → StaysOf old new
@@ -410,16 +405,16 @@ module _ (before : ℕ → List Entry) (start : ℕ → State) (first : ℕ) (g 
         let taken = sessions_of is.taken old.unkept in
         all_handled routes k until taken new is.handles
         (by_account all_done (only k cutting) old.desk.board is.taken.board (g.takes k _ at old.desk.board is.taken.board is.takes)
-        (λ still. lines.calm start first at within (takes k _) old.desk.board is.taken.board tt is.takes still.in_time) (λ still. opened_calm (takes k _) old.desk.board is.taken.board tt is.takes still.opened) was)
+        (λ still. lines.calm start first timeout at within (takes k _) old.desk.board is.taken.board tt is.takes still.in_time) (λ still. opened_calm (takes k _) old.desk.board is.taken.board tt is.takes still.opened) was)
     read_as got.End routes k buffer until old new is = parted_by k End old new (λ was. inner_may old.desk.board k End refl) is
     read_as got.Failed routes k buffer until old new is = parted_by k ReadFault old new (λ was. inner_may old.desk.board k ReadFault refl) is
     read_as got.Blocked routes k buffer until old new is = same_at old new is
 
     -- no Logon came in time
-    tardy_waited : (old : Board) (k : ℕ) → (connection_at old k).session ≡ None → (connection_at old k).since + LOGON_WAIT ≤ at → IsClockedAt at old → MayEnd start first at within old k (Silent (connection_at old k).since)
+    tardy_waited : (old : Board) (k : ℕ) → (connection_at old k).session ≡ None → (connection_at old k).since + LOGON_WAIT ≤ at → IsClockedAt at old → MayEnd start first timeout at within old k (Silent (connection_at old k).since)
     tardy_waited old k unbound waited was there stands since silent =
         let c = connection_at old k in
-        let came = (All-get_or (IsInTime start first at) old.connections k no_connection there was.in_time.lines).came in
+        let came = (All-get_or (IsInTime start first timeout at) old.connections k no_connection there was.in_time.lines).came in
         let same : c.since ≡ since = cc in
         subst (λ session. HasWaited first at since (wait_by start session (messages_of c.taken))) (sym unbound)
         (subst (λ n. HasWaited first at n LOGON_WAIT) same (record { begun = came; waited = waited; some = omega arith }))
@@ -458,10 +453,15 @@ module _ (before : ℕ → List Entry) (start : ℕ → State) (first : ℕ) (g 
     written_in_turn places count old new steps =
         each_in_turn (λ i. WritesAt (slice_index_or places i 0)) (λ a b. StaysOf a.sessions b.sessions) (λ so_far was. was) (λ a b c one two was. two (one was)) (λ i a b. written_at (slice_index_or places i 0) a b) count old new steps
 
+  -- of an engine that is so of sessions and connections, and its libraries are watched
+  pub record IsClockedEngine (at : ℕ) (e : Engine) : Type 0 where
+    pub board : IsClockedAt at (board_of e)
+    pub watched : AreWatched first timeout e.sessions
+
   -- a step of the engine, at its moment
   record Moves (old new : Engine) : Type 0 where
     moment : new.moment ≡ old.moment
-    keeps : (at : ℕ) → old.moment ≡ at → first ≤ at → IsClockedAt at (board_of old) → IsClockedAt at (board_of new)
+    keeps : (at : ℕ) → old.moment ≡ at → first ≤ at → IsClockedEngine at old → IsClockedEngine at new
 
   moves_itself : (e : Engine) → Moves e e
   moves_itself e = record { moment = refl; keeps = λ at is within was. was }
@@ -473,23 +473,29 @@ module _ (before : ℕ → List Entry) (start : ℕ → State) (first : ℕ) (g 
   }
 
   -- it is so at the engine's own moment
-  at_moment : (old new : Engine) → new.moment ≡ old.moment → ((within : first ≤ old.moment) → IsClockedAt old.moment (board_of old) → IsClockedAt old.moment (board_of new)) → Moves old new
+  at_moment : (old new : Engine) → new.moment ≡ old.moment → (first ≤ old.moment → IsClockedEngine old.moment old → IsClockedEngine old.moment new) → Moves old new
   at_moment old new moment keeps = record {
     moment = moment;
-    keeps = λ at is. subst (λ n. first ≤ n → IsClockedAt n (board_of old) → IsClockedAt n (board_of new)) is keeps;
+    keeps = λ at is. subst (λ n. first ≤ n → IsClockedEngine n old → IsClockedEngine n new) is keeps;
   }
 
-  calmly : (old new : Engine) → EngineStaysAccountedFor old new → ((within : first ≤ old.moment) → GoesOnInTime start first old.moment within (board_of old) (board_of new)) → GoesOnOpened (board_of old) (board_of new) → Moves old new
-  calmly old new stays in_time opened = at_moment old new stays.moment
+  -- no library is served
+  unserved : (old new : Engine) → new.moment ≡ old.moment → IsWatchedAlike old.sessions new.sessions → (first ≤ old.moment → IsClockedAt old.moment (board_of old) → IsClockedAt old.moment (board_of new)) → Moves old new
+  unserved old new moment alike keeps = at_moment old new moment
+      (λ within was. record { board = keeps within was.board; watched = watched_alike first timeout old.sessions new.sessions alike was.watched })
+
+  calmly : (old new : Engine) → EngineStaysAccountedFor old new → IsWatchedAlike old.sessions new.sessions → ((within : first ≤ old.moment) → GoesOnInTime start first timeout old.moment within (board_of old) (board_of new))
+      → GoesOnOpened (board_of old) (board_of new) → Moves old new
+  calmly old new stays alike in_time opened = unserved old new stays.moment alike
       (λ within. by_account old.moment within all_done all_done (board_of old) (board_of new) stays.board (λ was. in_time within was.in_time) (λ was. opened was.opened))
 
-  same_board : (old new : Engine) → EngineStaysAccountedFor old new → board_of new ≡ board_of old → Moves old new
-  same_board old new stays same = calmly old new stays (λ within was. subst (AreInTime start first old.moment) (sym same) was) (λ was. subst AreOpened (sym same) was)
+  same_board : (old new : Engine) → EngineStaysAccountedFor old new → IsWatchedAlike old.sessions new.sessions → board_of new ≡ board_of old → Moves old new
+  same_board old new stays alike same = calmly old new stays alike (λ within was. subst (AreInTime start first timeout old.moment) (sym same) was) (λ was. subst AreOpened (sym same) was)
 
-  accepted_in_time : (answer : Accepted) (at : ℕ) (within : first ≤ at) (old new : LeaseDesk) → AcceptsAs answer at old new → GoesOnInTime start first at within old.board new.board
-  accepted_in_time (accept.New c) at within old new is = lines.calm start first at within (accepts c at) old.board new.board refl is.0
-  accepted_in_time accept.Nothing at within old new same = lines.unchanged start first at within old.board new.board (ap (λ (desk : LeaseDesk). desk.board) same)
-  accepted_in_time accept.Failed at within old new same = lines.unchanged start first at within old.board new.board (ap (λ (desk : LeaseDesk). desk.board) same)
+  accepted_in_time : (answer : Accepted) (at : ℕ) (within : first ≤ at) (old new : LeaseDesk) → AcceptsAs answer at old new → GoesOnInTime start first timeout at within old.board new.board
+  accepted_in_time (accept.New c) at within old new is = lines.calm start first timeout at within (accepts c at) old.board new.board refl is.0
+  accepted_in_time accept.Nothing at within old new same = lines.unchanged start first timeout at within old.board new.board (ap (λ (desk : LeaseDesk). desk.board) same)
+  accepted_in_time accept.Failed at within old new same = lines.unchanged start first timeout at within old.board new.board (ap (λ (desk : LeaseDesk). desk.board) same)
 
   accepted_opened : (answer : Accepted) (at : ℕ) (old new : LeaseDesk) → AcceptsAs answer at old new → GoesOnOpened old.board new.board
   accepted_opened (accept.New c) at old new is = opened_calm (accepts c at) old.board new.board tt is.0
@@ -497,16 +503,17 @@ module _ (before : ℕ → List Entry) (start : ℕ → State) (first : ℕ) (g 
   accepted_opened accept.Failed at old new same = λ was. subst AreOpened (sym (ap (λ (desk : LeaseDesk). desk.board) same)) was
 
   next_accepted : (answer : Accepted) (old new : AtWire) → AcceptsNext answer old new → EngineStaysAccountedFor old.engine new.engine → Moves old.engine new.engine
-  next_accepted answer old new (inl asks) stays = calmly old.engine new.engine stays
+  next_accepted answer old new (inl asks) stays = calmly old.engine new.engine stays (desk_alike old.engine.sessions new.engine.sessions (ap (λ (e : Engine). e.sessions) asks.rest))
       (λ within. accepted_in_time answer old.engine.moment within old.engine.sessions.desk new.engine.sessions.desk asks.accepts) (accepted_opened answer old.engine.moment old.engine.sessions.desk new.engine.sessions.desk asks.accepts)
-  next_accepted answer old new (inr none) stays = same_board old.engine new.engine stays (ap (λ (a : AtWire). board_of a.engine) none.1.1)
+  next_accepted answer old new (inr none) stays =
+      same_board old.engine new.engine stays (same_alike old.engine.sessions new.engine.sessions (ap (λ (a : AtWire). a.engine.sessions) none.1.1)) (ap (λ (a : AtWire). board_of a.engine) none.1.1)
 
-  dialled_in_time : (answer : Option Dialled) (s at until : ℕ) (within : first ≤ at) (old new : LeaseDesk) (d_old d_new : Dialler) → DialsAs answer s at until old new d_old d_new → GoesOnInTime start first at within old.board new.board
-  dialled_in_time None s at until within old new d_old d_new is = lines.unchanged start first at within old.board new.board (ap (λ (desk : LeaseDesk). desk.board) is.1.0)
-  dialled_in_time (Some dial.Failed) s at until within old new d_old d_new is = lines.unchanged start first at within old.board new.board (ap (λ (desk : LeaseDesk). desk.board) is.1.0)
+  dialled_in_time : (answer : Option Dialled) (s at until : ℕ) (within : first ≤ at) (old new : LeaseDesk) (d_old d_new : Dialler) → DialsAs answer s at until old new d_old d_new → GoesOnInTime start first timeout at within old.board new.board
+  dialled_in_time None s at until within old new d_old d_new is = lines.unchanged start first timeout at within old.board new.board (ap (λ (desk : LeaseDesk). desk.board) is.1.0)
+  dialled_in_time (Some dial.Failed) s at until within old new d_old d_new is = lines.unchanged start first timeout at within old.board new.board (ap (λ (desk : LeaseDesk). desk.board) is.1.0)
   dialled_in_time (Some (dial.New number)) s at until within old new d_old d_new is = λ was.
       let to = is.1.0 in
-      lines.calm start first at within (dials s number at) to.gathered.board new.board refl to.dials (gathered_in_time at within s until old to.gathered to.gathers was)
+      lines.calm start first timeout at within (dials s number at) to.gathered.board new.board refl to.dials (gathered_in_time at within s until old to.gathered to.gathers was)
 
   dialled_opened : (answer : Option Dialled) (s at until : ℕ) (within : first ≤ at) (old new : LeaseDesk) (d_old d_new : Dialler) → DialsAs answer s at until old new d_old d_new → GoesOnOpened old.board new.board
   dialled_opened None s at until within old new d_old d_new is = λ was. subst AreOpened (sym (ap (λ (desk : LeaseDesk). desk.board) is.1.0)) was
@@ -518,23 +525,20 @@ module _ (before : ℕ → List Entry) (start : ℕ → State) (first : ℕ) (g 
   session_dialled : (s : ℕ) (old new : AtWire) → DialsSession s old new → Moves old.engine new.engine
   session_dialled s old new is =
       let stays = g.dials s old new is in
-      at_moment old.engine new.engine stays.moment
+      unserved old.engine new.engine stays.moment (desk_alike old.engine.sessions new.engine.sessions (ap (λ (e : Engine). e.sessions) is.rest))
       (λ within. by_account old.engine.moment within all_done all_done (board_of old.engine) (board_of new.engine) stays.board
       (λ was. dialled_in_time is.answer s old.engine.moment (until_of old.engine) within old.engine.sessions.desk new.engine.sessions.desk old.engine.dialler new.engine.dialler is.dials was.in_time)
       (λ was. dialled_opened is.answer s old.engine.moment (until_of old.engine) within old.engine.sessions.desk new.engine.sessions.desk old.engine.dialler new.engine.dialler is.dials was.opened))
 
   one_read : (k : ℕ) (old new : Reading) → ReadsIfStands k old new → EngineStaysAccountedFor old.engine new.engine → Moves old.engine new.engine
-  one_read k old new (inl reads) stays = at_moment old.engine new.engine stays.moment (λ within. read_at old.engine.moment within reads.answer _ k _ (until_of old.engine) _ _ reads.reads)
-  one_read k old new (inr none) stays = same_board old.engine new.engine stays (ap (λ (r : Reading). board_of r.engine) none.1)
+  one_read k old new (inl reads) stays = unserved old.engine new.engine stays.moment (desk_alike old.engine.sessions new.engine.sessions (ap (λ (e : Engine). e.sessions) reads.rest))
+      (λ within. read_at old.engine.moment within reads.answer _ k _ (until_of old.engine) _ _ reads.reads)
+  one_read k old new (inr none) stays =
+      same_board old.engine new.engine stays (same_alike old.engine.sessions new.engine.sessions (ap (λ (r : Reading). r.engine.sessions) none.1)) (ap (λ (r : Reading). board_of r.engine) none.1)
 
   session_ticked : (s : ℕ) (old new : Engine) → TicksSession s old new → Moves old new
-  session_ticked s old new is = at_moment old new (g.ticks s old new is).moment (λ within. ticked_at old.moment within s (until_of old) old.sessions.desk new.sessions.desk is.end is.ticks)
-
-  library_calm : (at : ℕ) (within : first ≤ at) (happening : Happening) → IsOfLibraries at happening → IsCalm start first at within happening
-  library_calm at within (times_out s w bodies moment until) is = tt
-  library_calm at within (requests s library nr from) is = tt
-  library_calm at within (reserves s) is = tt
-  library_calm at within other is = absurd is
+  session_ticked s old new is = unserved old new (g.ticks s old new is).moment (desk_alike old.sessions new.sessions (ap (λ (e : Engine). e.sessions) is.rest))
+      (λ within. ticked_at old.moment within s (until_of old) old.sessions.desk new.sessions.desk is.end is.ticks)
 
   library_binds : (at : ℕ) (happening : Happening) → IsOfLibraries at happening → BindsNone happening
   library_binds at (times_out s w bodies moment until) is = tt
@@ -542,25 +546,31 @@ module _ (before : ℕ → List Entry) (start : ℕ → State) (first : ℕ) (g 
   library_binds at (reserves s) is = tt
   library_binds at other is = absurd is
 
-  one_served : (library : ℕ) (old new : Serving) → ServesOne library old new → Moves old.engine new.engine
-  one_served library old new is =
+  one_served : (i : ℕ) (old new : Serving) → ServesOne (i + 1) old new → Moves old.engine new.engine
+  one_served i old new is =
       let at = old.engine.moment in
-      let runs = g.serving library at (until_of old.engine) old.engine.sessions new.engine.sessions is.turn is.serves in
-      calmly old.engine new.engine (g.serves library old new is)
-      (λ within. lines.reached start first at within runs.happenings (board_of old.engine) (board_of new.engine)
-      (All-weaker (IsOfLibraries at) (IsCalm start first at within) (library_calm at within) runs.happenings runs.all) runs.reaches)
-      (opened_reached runs.happenings (board_of old.engine) (board_of new.engine) (All-weaker (IsOfLibraries at) BindsNone (library_binds at) runs.happenings runs.all) runs.reaches)
+      let until = until_of old.engine in
+      let stays = g.serves (i + 1) old new is in
+      let runs = g.serving (i + 1) at until old.engine.sessions new.engine.sessions is.turn is.serves in
+      at_moment old.engine new.engine stays.moment
+      (λ within was. record {
+        board = by_account at within all_done all_done (board_of old.engine) (board_of new.engine) stays.board
+            (λ now. served_in_time start first timeout at within (i + 1) until old.engine.sessions new.engine.sessions is.turn (omega arith) is.serves was.watched now.in_time)
+            (λ now. opened_reached runs.happenings (board_of old.engine) (board_of new.engine) (All-weaker (IsOfLibraries at) BindsNone (library_binds at) runs.happenings runs.all) runs.reaches now.opened)
+            was.board;
+        watched = served_watched first timeout (i + 1) at until old.engine.sessions new.engine.sessions is.turn within is.serves was.watched;
+      })
 
   session_noted : (s : ℕ) (old new : Engine) → NotesSession s old new → Moves old new
-  session_noted s old new is = same_board old new (g.notes s old new is) (ap (λ (e : Engine). board_of e) is.1)
+  session_noted s old new is = same_board old new (g.notes s old new is) (same_alike old.sessions new.sessions (ap (λ (e : Engine). e.sessions) is.1)) (ap (λ (e : Engine). board_of e) is.1)
 
   session_published : (s : ℕ) (old new : Engine) → PublishesSession s old new → Moves old new
-  session_published s old new is = same_board old new (g.publishes s old new is) is.board
+  session_published s old new is = same_board old new (g.publishes s old new is) (desk_alike old.sessions new.sessions (ap (λ (e : Engine). e.sessions) is.rest)) is.board
 
   all_written : (links_old links_new : ℕ → Link) (old new : Engine) (bytes : ℕ) → WritesAll links_old links_new old new bytes → Moves old new
   all_written links_old links_new old new bytes is =
       let places = open_places old.lines in
-      at_moment old new (ap (λ (e : Engine). e.moment) is.rest)
+      unserved old new (ap (λ (e : Engine). e.moment) is.rest) (desk_alike old.sessions new.sessions (ap (λ (e : Engine). e.sessions) is.rest))
       (λ within. written_in_turn old.moment within places (length places) (written_so_far old.sessions.desk old.lines.unkept.items links_old 0) (written_so_far new.sessions.desk old.lines.unkept.items links_new bytes) is.writes)
 
   engine_in_turn : (Step : ℕ → Engine → Engine → Type 0) (count : ℕ) (old new : Engine) → ((i : ℕ) (a b : Engine) → Step i a b → Moves a b) → InTurn Step count old new → Moves old new
@@ -588,7 +598,7 @@ module _ (before : ℕ → List Entry) (start : ℕ → State) (first : ℕ) (g 
       (moves_further is.read is.ticked new.engine (engine_in_turn TicksSession (length is.read.sessions.desk.board.sessions) is.read is.ticked session_ticked is.ticks)
       (moves_further is.ticked is.served new.engine
       (each_in_turn (λ i. ServesOne (i + 1)) (λ (a b : Serving). Moves a.engine b.engine) (λ a. moves_itself a.engine) (λ a b c. moves_further a.engine b.engine c.engine)
-      (λ i a b. one_served (i + 1) a b) (length is.ticked.sessions.ends.items) (serving_of is.ticked []) (serving_of is.served taken.libs) is.serves)
+      one_served (length is.ticked.sessions.ends.items) (serving_of is.ticked []) (serving_of is.served taken.libs) is.serves)
       (engine_in_turn NotesSession (length is.served.sessions.desk.board.sessions) is.served new.engine session_noted is.notes)))))
 
   turn_moves : (reading : ℕ) (old new : AtWire) (turn : Turn) → MakesTurn reading old new turn → Moves (with_moment reading old.engine) new.engine
@@ -599,13 +609,13 @@ module _ (before : ℕ → List Entry) (start : ℕ → State) (first : ℕ) (g 
   pub turn_moment : (reading : ℕ) (old new : AtWire) (turn : Turn) → MakesTurn reading old new turn → new.engine.moment ≡ (with_moment reading old.engine).moment
   turn_moment reading old new turn is = (turn_moves reading old new turn is).moment
 
-  pub turn_clocked : (reading : ℕ) (old new : AtWire) (turn : Turn) → MakesTurn reading old new turn → first ≤ old.engine.moment → IsClockedAt old.engine.moment (board_of old.engine) → IsClockedAt new.engine.moment (board_of new.engine)
+  pub turn_clocked : (reading : ℕ) (old new : AtWire) (turn : Turn) → MakesTurn reading old new turn → first ≤ old.engine.moment → IsClockedEngine old.engine.moment old.engine → IsClockedEngine new.engine.moment new.engine
   turn_clocked reading old new turn is within was =
       let begun = with_moment reading old.engine in
       let moves = turn_moves reading old new turn is in
       let later : old.engine.moment ≤ begun.moment = omega arith in
-      subst (λ n. IsClockedAt n (board_of new.engine)) (sym moves.moment)
-      (moves.keeps begun.moment refl (omega arith) (later_clocked old.engine.moment begun.moment (board_of old.engine) later was))
+      subst (λ n. IsClockedEngine n new.engine) (sym moves.moment)
+      (moves.keeps begun.moment refl (omega arith) (record { board = later_clocked old.engine.moment begun.moment (board_of old.engine) later was.board; watched = was.watched }))
 
   -- as each session is gathered at the end
   pub gathered_clocked : (count at until : ℕ) (old new : LeaseDesk) → first ≤ at → InTurn (λ s. Gathers s at until) count old new → IsClockedAt at old.board → IsClockedAt at new.board

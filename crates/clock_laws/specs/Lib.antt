@@ -1,3 +1,4 @@
 pub mod Waited
+pub mod TakenBack
 pub mod Kept
 pub mod Wrong

@@ -2,7 +2,7 @@
 
 ghost use Rattle.std.specs.Prelude.{ℕ, Bool, List, Option};
 ghost use Rattle.clock_laws.specs.Kept.{KeepsTime};
-ghost use Rattle.clock_laws.specs.Wrong.{IsCutOffEarly, IsRefuted, IsSilentBefore, StandsStill};
+ghost use Rattle.clock_laws.specs.Wrong.{IsCutOffEarly, IsRefuted, IsRefutedWith, IsSilentBefore, IsTakenBackAtOnce, IsTakenBackEarly, StandsStill};
 ghost use Rattle.gate_io.specs.Wire.{Door, Link};
 ghost use Rattle.run_report.specs.declared.records.RunRecord.{RunRecord};
 ghost use Rattle.script_text.specs.declared.steps.Script.{Script};
@@ -18,7 +18,8 @@ use run_laws::laws::engines_are_accounted_for;
 use serve_laws::laws::served_scripts_are_accounted_for;
 
 /// Whatever script is served, a connection of its record ended since nothing came only where the clock had gone on for as long as
-/// that is waited for.
+/// that is waited for, and a lease was taken back for its library's silence only where it had gone on for as long as a library may
+/// be silent.
 pub fn silences_are_waited_for()
     ensures { (script : Script) (turns : ℕ) (wide : Bool) (old new : Door) (old_links new_links : ℕ → Link) (left : RunRecord) (spent : Option ℕ)
         (serves : Serves script turns wide AnyReadings old new old_links new_links left spent) → KeepsTime script.config serves.reading serves.drives.last.readings left }
@@ -40,4 +41,8 @@ pub fn early_ends_are_refuted()
     ensures before { IsRefuted IsSilentBefore }
     // A connection without a session ended before the time that a Logon may take.
     ensures early { IsRefuted IsCutOffEarly }
+    // A lease was taken back, and no reading was greater than the first.
+    ensures at_once { IsRefutedWith IsTakenBackAtOnce }
+    // A lease was taken back before the time for which a library may be silent.
+    ensures taken_early { IsRefutedWith IsTakenBackEarly }
 {}

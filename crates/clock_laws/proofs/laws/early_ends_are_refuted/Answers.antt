@@ -1,4 +1,4 @@
-use Rattle.clock_laws.proofs.Refuted.{before_refuted, early_refuted, still_refuted}
+use Rattle.clock_laws.proofs.Refuted.{at_once_refuted, before_refuted, early_refuted, still_refuted, taken_early_refuted}
 use Rattle.clock_laws.proofs.laws.early_ends_are_refuted.Goals as goal
 
 pub returns-clause-still : goal.returns-clause-still
@@ -9,3 +9,9 @@ returns-clause-before c = before_refuted
 
 pub returns-clause-early : goal.returns-clause-early
 returns-clause-early c = early_refuted
+
+pub returns-clause-at_once : goal.returns-clause-at_once
+returns-clause-at_once c = at_once_refuted
+
+pub returns-clause-taken_early : goal.returns-clause-taken_early
+returns-clause-taken_early c = taken_early_refuted
