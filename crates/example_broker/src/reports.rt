@@ -11,7 +11,7 @@ use itoa::Buffer;
 use std::alloc::Global;
 
 /// Room for a text, so that most don't grow as they are written.
-const TEXT_ROOM: usize = 256;
+const TEXT_ROOM: usize = 128;
 
 /// Room for an OrderID (37): a session, a line and a number.
 const NAME_ROOM: usize = 32;
