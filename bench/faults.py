@@ -8,7 +8,8 @@ its turns, for each turn and each connection in turn, and the script is replayed
 connection C ended by that fault, or as it did without; where C has a session, the journals, logs and holdings of all others are as
 without the fault, and so is what was written on their connections; and where C has none, those of all sessions are. Dials are
 numbered in the order in which they come, and a fault makes a session dial again: so the numbers of dialled connections aren't
-compared, and a script in which two sessions dial says nothing of the others'.
+compared, and a script in which two sessions dial says nothing of the others'. Nor are sessions compared that share a library with
+C's where that may have more messages than its ring of notices holds: then it hears of each as soon as the others leave room.
 
 The program has to be built, as `./fixgate` does it. It ends with status 1 where a run wasn't right.
 """
@@ -23,6 +24,7 @@ import sys
 TOP = os.path.dirname(os.path.dirname(os.path.realpath(__file__)))
 PROGRAM = os.environ.get("FIXGATE", f"{TOP}/crates/gateway_cli/out/gateway_cli")
 FIRST_DIALLED = 1024
+RING = 256
 FAULTS = {"failread {}": "read-fault", "failwrite {} 0": "write-fault"}
 
 
@@ -62,7 +64,21 @@ def places(lines):
             yield from ((at, c) for c in [*range(accepted), *range(FIRST_DIALLED, FIRST_DIALLED + dialled)])
 
 
-def wrong_in(whole, status, report, c, cause):
+def crowded(lines, sessions):
+    """For each session those that share a library with it whose ring their messages may fill."""
+    asked = {}
+    for line in lines:
+        if asks := re.match(r"lib (\d+) request (\d+) ", line):
+            asked.setdefault(asks[1], set()).add(int(asks[2]))
+    found = {}
+    for shared in asked.values():
+        if sum(line.startswith(" in ") for s in shared for line in sessions.get(s, [])) >= RING:
+            for s in shared:
+                found.setdefault(s, set()).update(shared)
+    return found
+
+
+def wrong_in(whole, near, status, report, c, cause):
     """What isn't right in a run, and whether the fault was met."""
     if status:
         return f"status {status}", False
@@ -74,7 +90,7 @@ def wrong_in(whole, status, report, c, cause):
     old = was.get(c, (None, None, []))
     if ended not in (cause, old[1]):
         return f"it ended by {ended}", False
-    own = {session, old[0]}
+    own = {session, old[0]} | near.get(session, set()) | near.get(old[0], set())
     for s in before:
         if s not in own and sessions.get(s) != before[s]:
             return f"session {s} differs", False
@@ -91,13 +107,14 @@ def faults_in(script):
     if status:
         return script, 0, 0, []
     whole, dialling = told(report), sum(line.startswith("dial ") for line in lines)
+    near = crowded(lines, whole[0])
     runs, met, wrong = 0, 0, []
     for at, c in places(lines):
         if dialling > 1 and c >= FIRST_DIALLED:
             continue
         for fault, cause in FAULTS.items():
             line = fault.format(c)
-            what, is_met = wrong_in(whole, *replay([*lines[:at], line, *lines[at:]]), c, cause)
+            what, is_met = wrong_in(whole, near, *replay([*lines[:at], line, *lines[at:]]), c, cause)
             runs, met = runs + 1, met + is_met
             if what:
                 wrong.append(f"{script}: {line} before line {at + 1}: {what}")
