@@ -485,7 +485,7 @@ def run(server, cases):
     faults = server.faults()
     print(
         f"{server.kind} ended with status {status}, at most {server.most:.1f} MB; the other client traded {trader.done} orders, "
-        f"wrong: {trader.wrong}; wrong ends: {faults or 'none'}",
+        f"wrong: {trader.wrong}; wrong ends: {faults[:8] or 'none'}{f' and {len(faults) - 8} more' if len(faults) > 8 else ''}",
         flush=True,
     )
     return fine and status == 0 and not faults
