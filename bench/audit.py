@@ -3,10 +3,11 @@
 
 Three kinds of reports, each of about 32 MB and of a tenth of that: the orders of one session, which nobody reads; orders that
 libraries read and answer, lease by lease; and journals alone, whose lines are short. Both programs take each report by
-turns; the times are the least of five. The last ratio of a kind is that of the two sizes' times: near ten where the
+turns; the times are the median of five. The last ratio of a kind is that of the two sizes' times: near ten where the
 time is linear. Nothing depends on the numbers but the reader.
 """
 import os
+import statistics
 import subprocess
 import tempfile
 
@@ -104,7 +105,7 @@ def main():
         subprocess.run(["cc", "-O2", "-o", plain, os.path.join(ROOT, "bench", "plain_words.c")], check=True)
         path = os.path.join(folder, "report")
         for kind, make in KINDS.items():
-            least = {}
+            times = {}
             for size in (SIZE, SIZE // 10):
                 text = make(size)
                 with open(path, "wb") as file:
@@ -115,10 +116,11 @@ def main():
                     assert named == "0", (kind, size, named)
                     ours.append(taken)
                     theirs.append(time_of([plain, path])[0])
-                least[size] = min(ours)
-                rate = len(text) * 1000 / min(ours)
-                print(f"{kind}: {len(text)} bytes, {rate:.0f} MB a second, {min(ours) / min(theirs):.1f} times plain C")
-            print(f"{kind}: ten times the bytes take {least[SIZE] / least[SIZE // 10]:.1f} times as long")
+                taken, yardstick = statistics.median(ours), statistics.median(theirs)
+                times[size] = taken
+                rate = len(text) * 1000 / taken
+                print(f"{kind}: {len(text)} bytes, {rate:.0f} MB a second, {taken / yardstick:.1f} times plain C")
+            print(f"{kind}: ten times the bytes take {times[SIZE] / times[SIZE // 10]:.1f} times as long")
 
 
 if __name__ == "__main__":

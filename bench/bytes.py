@@ -4,9 +4,10 @@
 For each stream it prints megabytes a second of the cut beside the time in which bench/scan_bytes.c passes once over the
 same bytes, in the same run, as a ratio; and for good frames messages a second with their fields read, beside the time in
 which bench/scan_fields.c, plain C, does the same work: it takes each frame, compares its sum, and notes the tag, place
-and length of each field. Each figure is the best of five, taken in turns. Nothing depends on the numbers but the reader.
+and length of each field. Each figure is the median of five runs by turns. Nothing depends on the numbers but the reader.
 """
 import os
+import statistics
 import subprocess
 import tempfile
 
@@ -59,14 +60,13 @@ STREAMS = {
 
 
 def nanoseconds(*commands):
-    """The least time of each command, where they run in turns, so that each meets the same machine."""
-    least = [None] * len(commands)
+    """The median of each command's times, where they run by turns, so that each meets the same machine."""
+    times = [[] for _ in commands]
     for _ in range(5):
-        for at, command in enumerate(commands):
+        for taken, command in zip(times, commands):
             output = subprocess.run(command, stdout=subprocess.PIPE, check=True).stdout
-            taken = int(output.split()[0])
-            least[at] = taken if least[at] is None else min(least[at], taken)
-    return least
+            taken.append(int(output.split()[0]))
+    return [statistics.median(taken) for taken in times]
 
 
 def compiled(folder, name):

@@ -4,11 +4,12 @@
 Three kinds of scripts of nearly 16 MiB, and each with a tenth of its messages: the orders of one session,
 orders of 64 sessions in turn, and a library's calls (it requests a session, polls what came, sends a report
 for each order, and gives the session back). Both programs replay each script by turns; the times are the
-least of five. bench/plain_replay.c does the same work in plain C: it splits, frames, cuts, checks, keeps, and
+median of five. bench/plain_replay.c does the same work in plain C: it splits, frames, cuts, checks, keeps, and
 writes as much, and is checked to write about as many bytes. The last ratio of a kind is that of the two scripts'
 times: near ten where the time is linear. Nothing depends on the numbers but the reader.
 """
 import os
+import statistics
 import subprocess
 import sys
 import tempfile
@@ -106,8 +107,9 @@ def measure(folder, plain, name, make, orders):
     with open(path, "w") as file:
         file.write(text)
     runs = [(run([PROGRAM, "replay", path]), run([plain, path])) for _ in range(5)]
-    replayed, told = min(a for a, _ in runs)
-    yardstick, plainly = min(b for _, b in runs)
+    replayed = statistics.median(took for (took, _), _ in runs)
+    yardstick = statistics.median(took for _, (took, _) in runs)
+    (_, told), (_, plainly) = runs[0]
     print(
         f"{name}: {orders} orders, {len(text):,} bytes: replay {replayed:.3f} s, {orders / replayed:,.0f} orders and "
         f"{len(text) / replayed / 1e6:.1f} MB a second; plain C {yardstick:.3f} s; ratio {replayed / yardstick:.2f}; "
