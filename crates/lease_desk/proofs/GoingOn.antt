@@ -1,6 +1,6 @@
 -- How a session goes on that is looked at or taken back.
 use Rattle.std.proofs.Common.{◌≡◌, ◌≢◌, inl, inr, ℕ, suc, ◌<◌, ◌≤◌, List, [], ◌∷◌, length, Bool, true, false, refl, sym, ap, subst, ◌∙◌, arith}
-use Rattle.std.specs.Prelude.{OnOk, Result, Ok, Err, if◌then◌else◌}
+use Rattle.std.specs.Prelude.{OnErr, OnOk, Result, Ok, Err, if◌then◌else◌}
 use Rattle.lease_core.specs.Lines.{ending_by, last_line, lines_of, no_line, raised, raised_line, raises}
 use Rattle.lease_core.specs.Showable.{owner_by}
 use Rattle.lease_core.specs.State.{last_or, owner_in, owner_of, state_of, with_last}
@@ -99,3 +99,7 @@ gone_from tell entries library some ended same =
 pub on_ok : {A E P Q : Type 0} (r : Result A E) → (P → Q) → OnOk r P → OnOk r Q
 on_ok (Ok x) f p = f p
 on_ok (Err e) f p = tt
+
+pub on_err : {A E P : Type 0} (r : Result A E) → P → OnErr r P
+on_err (Ok x) p = tt
+on_err (Err e) p = p

@@ -16,6 +16,7 @@ use Rattle.session_book.specs.Words.{after_timeout, after_word}
 use Rattle.switchboard.specs.Board.{Board, DeskChanges, book_at, desk_at, outlet_at, place_at, session_at}
 use Rattle.switchboard.specs.Happenings.{Happening, Happens, Reaches, requests, reserves, shows, times_out}
 use Rattle.switchboard.specs.Sound.{IsSound, bound_of}
+use Rattle.switchboard.specs.Stops.{NothingIsTold}
 
 -- The lines of leases that the session's journal tells are those that the seat has seen; all that they show was taken; and what is published isn't
 -- above the inbound log's length.
@@ -128,3 +129,11 @@ is_of_leases (shows s w bodies at until) = true
 is_of_leases (times_out s w bodies at until) = true
 is_of_leases (requests s library nr from) = true
 is_of_leases _ = false
+
+-- Sessions that a library has are taken back, and then memory is wanting: of the next one nothing is told.
+pub record TakesBackSome (library at until : ℕ) (old new : LeaseDesk) : Type 0 where
+  pub count : ℕ
+  pub few : count < length old.board.sessions
+  pub between : LeaseDesk
+  pub taken_back : InTurn (TakesBackFrom library at until) count old between
+  pub stops : NothingIsTold between.board new.board

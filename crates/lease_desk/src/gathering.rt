@@ -2,13 +2,14 @@
 
 ghost use Rattle.std.specs.Prelude.{◌≡◌, ◌≢◌, ℕ, ◌<◌, ◌≤◌, ◌+◌, [], length, map, All, IfSome, OnOk, OnErr, true, false};
 ghost use Rattle.std.specs.VecDeque.{deque_capacity, deque_len};
-ghost use Rattle.lease_desk.specs.Desk.{Agrees, Gathers, GoesOn, HasRoom, InTurn, IsInStep, Rests, TakesBack, TakesBackFrom, TakesItems, owner_at};
+ghost use Rattle.lease_desk.specs.Desk.{Agrees, Gathers, GoesOn, HasRoom, InTurn, IsInStep, Rests, TakesBack, TakesBackFrom, TakesBackSome, TakesItems, owner_at};
 ghost use Rattle.lease_words.specs.Facts.{OthersTaken};
 ghost use Rattle.lease_words.specs.Leases.{Each, is_running};
 ghost use Rattle.lease_words.specs.Tells.{IsSettled};
 ghost use Rattle.lease_words.specs.Views.{engine_at, pending};
 ghost use Rattle.resend_plan.specs.Fit.{IsFit};
 ghost use Rattle.switchboard.specs.Board.{book_at, place_at};
+ghost use Rattle.switchboard.specs.Stops.{NothingIsTold};
 
 use crate::desk::{GATHERED, LeaseDesk};
 use fix_fields::laws::fit_bodies_are_bodies;
@@ -18,7 +19,7 @@ use lease_words::{EngineSeat, LANE_SLOTS, Leases};
 use session_core::MOST_SESSIONS;
 use std::alloc::Global;
 use std::collections::VecDeque;
-use switchboard::laws::boards_stay_sound;
+use switchboard::laws::{boards_stay_sound, stops_are_told};
 
 impl LeaseDesk {
     /// Looks at a session's lease word and records what it shows: the sends that came since the last
@@ -42,6 +43,7 @@ impl LeaseDesk {
         requires agrees { Agrees self.old.board self.old.seat s }
         ensures gathers { OnOk result (Gathers s at until self.old self.new) }
         ensures rests { OnErr result (Rests s self.old self.new) }
+        ensures nothing { OnErr result (NothingIsTold self.old.board self.new.board) }
         ensures agrees { Agrees self.new.board self.new.seat s }
         ensures table { self.new.seat.table ≡ self.old.seat.table }
         ensures in_step { IsInStep self.old.board self.old.seat → IsInStep self.new.board self.new.seat }
@@ -85,6 +87,7 @@ impl LeaseDesk {
         ensures taken_back { OnOk result (TakesBack s at until self.old self.new) }
         ensures ended { OnOk result (is_running (engine_at self.new.seat s).lines ≡ false) }
         ensures rests { OnErr result (Rests s self.old self.new) }
+        ensures nothing { OnErr result (NothingIsTold self.old.board self.new.board) }
         ensures agrees { Agrees self.new.board self.new.seat s }
         ensures table { self.new.seat.table ≡ self.old.seat.table }
         ensures in_step { IsInStep self.old.board self.old.seat → IsInStep self.new.board self.new.seat }
@@ -119,6 +122,7 @@ impl LeaseDesk {
         requires few { leases.now.shape.sessions ≤ MOST_SESSIONS }
         requires in_step { IsInStep self.old.board self.old.seat }
         ensures taken_back { OnOk result (InTurn (TakesBackFrom library at until) (length self.old.board.sessions) self.old self.new) }
+        ensures stops { OnErr result (TakesBackSome library at until self.old self.new) }
         ensures gone { OnOk result ((s : ℕ) → s < length self.new.board.sessions → owner_at self.new.board s ≢ library) }
         ensures in_step { IsInStep self.new.board self.new.seat }
         ensures table { self.new.seat.table ≡ self.old.seat.table }
@@ -150,6 +154,7 @@ impl LeaseDesk {
         requires seated { s < leases.now.shape.sessions }
         requires in_step { IsInStep self.old.board self.old.seat }
         ensures taken_back { OnOk result (TakesBackFrom library at until s self.old self.new) }
+        ensures nothing { OnErr result (NothingIsTold self.old.board self.new.board) }
         ensures gone { OnOk result (owner_at self.new.board s ≢ library) }
         ensures others { (j : ℕ) → j ≢ s → book_at self.new.board j ≡ book_at self.old.board j }
         ensures in_step { IsInStep self.new.board self.new.seat }
@@ -172,10 +177,12 @@ impl LeaseDesk {
         requires session { s < length self.old.board.sessions }
         requires place { IfSome (place_at self.old.board s) (λ k. k < length self.old.board.connections) }
         ensures rests { Rests s self.old self.new }
+        ensures nothing { NothingIsTold self.old.board self.new.board }
         ensures empty { OnOk result (self.new.bodies.items ≡ []) }
         ensures bodies { OnOk result (LANE_SLOTS ≤ deque_capacity self.new.bodies) }
         ensures room { OnOk result (HasRoom s self.new.board) }
     {
+        stops_are_told();
         self.board.reserve(alloc, s as usize, GATHERED)?;
         self.bodies.clear();
         self.bodies.reserve(LANE_SLOTS)?;

@@ -9,6 +9,7 @@ ghost use Rattle.lease_desk.specs.Desk.{Agrees, IsGrant, IsInStep, OnGranted, se
 ghost use Rattle.session_book.specs.Acts.{after_request};
 ghost use Rattle.switchboard.specs.Happenings.{Happens, requests};
 ghost use Rattle.switchboard.specs.Board.{book_at, session_at, with_session};
+ghost use Rattle.switchboard.specs.Stops.{NothingIsTold};
 
 use crate::desk::LeaseDesk;
 use gate_io::NoMemory;
@@ -43,6 +44,7 @@ impl LeaseDesk {
         ensures others { self.new.board ≡ with_session s (session_at self.new.board s) self.old.board }
         ensures happens { OnOk result (Happens (requests s library nr from) self.old.board self.new.board) }
         ensures seat { IfOk result (λ reply. self.new.seat ≡ seat_after_reply s library reply self.old.seat) }
+        ensures nothing { OnErr result (NothingIsTold self.old.board self.new.board) }
         ensures err_book { OnErr result (book_at self.new.board s ≡ book_at self.old.board s) }
         ensures err_seat { OnErr result (self.new.seat ≡ self.old.seat) }
         ensures agrees { Agrees self.new.board self.new.seat s }

@@ -39,7 +39,7 @@ stays_given old new pieces stays is = record {
   counted = stays.garbled_bytes ∙ is.counted;
 }
 
-fresh_given : (c : ConnectionState) → c.taken ≡ [] → c.held ≡ [] → c.garbled ≡ 0 → IsGiven c []
+pub fresh_given : (c : ConnectionState) → c.taken ≡ [] → c.held ≡ [] → c.garbled ≡ 0 → IsGiven c []
 fresh_given c taken held none = record {
   so_far = record { so_far = ap (λ bytes. cut LONGEST_FRAME bytes) taken ∙ ap (λ bytes. behind [] (cut LONGEST_FRAME bytes)) (sym held) };
   counted = none;

@@ -10,3 +10,4 @@ pub mod Bringing
 pub mod Going
 pub mod Written
 pub mod Quiet
+pub mod Stopping

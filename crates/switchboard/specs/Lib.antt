@@ -5,3 +5,4 @@ pub mod Ready
 pub mod Going
 pub mod Told
 pub mod Brought
+pub mod Stops

@@ -14,6 +14,7 @@ ghost use Rattle.session_core.specs.declared.names.Names.{Names};
 ghost use Rattle.session_core.specs.declared.phases.Phase.TheVariants as Phase;
 ghost use Rattle.switchboard.specs.Board.{DeskChanges, PlugChanges, book_at, connection_at, desk_with, outgoing_at, place_at, session_at, with_connection};
 ghost use Rattle.switchboard.specs.Happenings.{BindsTo, Happens, IsNewNumber, answers, binds, dials, ends_bound, ends_unbound};
+ghost use Rattle.switchboard.specs.Stops.{NothingIsTold, StopsIn};
 
 use crate::board::{Switchboard, is_lawful};
 use connection_core::Connection;
@@ -49,6 +50,8 @@ impl Switchboard {
         // As a happening: of a session that accepts, on a connection that stands.
         ensures binds { OnOk result ((names : List Names) → is_logon names body.items ≡ true → (book_at self.old s).machine.dials ≡ None → IsNone (connection_at self.old k).cause → BindsTo s k body.items at self.old self.new) }
         ensures happens { IfOk result (λ end. (names : List Names) → is_logon names body.items ≡ true → (book_at self.old s).machine.dials ≡ None → IsNone (connection_at self.old k).cause → end ≡ None → Happens (binds s k body.items at) self.old self.new) }
+        // Without memory it didn't happen, or was begun.
+        ensures stops { OnErr result ((names : List Names) → is_logon names body.items ≡ true → (book_at self.old s).machine.dials ≡ None → IsNone (connection_at self.old k).cause → StopsIn (binds s k body.items at) self.old self.new) }
         ensures err { OnErr result (DeskChanges s (Some k) self.old self.new) }
         ensures begun { OnErr result ((desk_with self.new s (Some k) ≡ desk_with self.old s (Some k)) ⊎ IsBegun at (receive (book_at self.old s).machine body.items at).acts (with_outbox (with_machine (after_receive (book_at self.old s).machine body.items at) (with_event (Binds (connection_at self.old k).number) (book_at self.old s))) (outgoing_at self.old (Some k))) (desk_with self.new s (Some k))) }
     {
@@ -79,6 +82,8 @@ impl Switchboard {
         ensures on { OnOk result ((book_at self.new s).machine.phase ≢ Phase.Off) }
         ensures bound { OnOk result ((state_of (book_at self.new s).entries).bound ≡ Some number) }
         ensures happens { OnOk result (IsNewNumber self.old number → Happens (dials s number at) self.old self.new) }
+        // Without memory it didn't happen, or was begun.
+        ensures stops { OnErr result (IsNewNumber self.old number → StopsIn (dials s number at) self.old self.new) }
         ensures begun { OnErr result ((book_at self.new s ≡ book_at self.old s) ⊎ IsBegun at (ask (book_at self.old s).machine).acts (with_outbox (with_machine (after_ask (book_at self.old s).machine at) (with_event (Binds number) (book_at self.old s))) no_outgoing) (desk_with self.new s (Some (length self.old.connections)))) }
         ensures err_places { OnErr result (self.new.places ≡ self.old.places) }
         ensures err_connections { OnErr result (take (length self.old.connections) self.new.connections ≡ self.old.connections) }
@@ -123,6 +128,7 @@ impl Switchboard {
         ensures unplugged { OnOk result (PlugChanges s k None self.old self.new) }
         ensures bound { OnOk result ((state_of (book_at self.new s).entries).bound ≡ None) }
         ensures happens { OnOk result (place_at self.old s ≡ Some k → Happens (ends_bound s k cause) self.old self.new) }
+        ensures nothing { OnErr result (NothingIsTold self.old self.new) }
         ensures err { OnErr result ((book_at self.new s ≡ book_at self.old s) × DeskChanges s None self.old self.new) }
     {
         let number = self.connections[k].number();

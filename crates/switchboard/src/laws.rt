@@ -14,14 +14,15 @@ ghost use Rattle.session_book.specs.Kept.{Kept};
 ghost use Rattle.switchboard.specs.Board.{Board, DeskChanges, PlugChanges, book_at, connection_at, place_at, session_at, with_connection, with_connections, with_session, with_session_more};
 ghost use Rattle.switchboard.specs.Brought.{Brought, IsBrought, TakeWhatIsInHand, TakesWhatIsInHand, brought_after, brought_over, nothing_brought};
 ghost use Rattle.switchboard.specs.Going.{GoesOnTo, IsHeldAsBefore, IsWrittenAsBefore, KeepsBytes, is_coming, is_quiet, is_writing};
-ghost use Rattle.switchboard.specs.Happenings.{BindsTo, Happening, Happens, Reaches, binds_and_ends, ends_bound};
+ghost use Rattle.switchboard.specs.Happenings.{BindsTo, Happening, Happens, Reaches, binds, binds_and_ends, ends_bound, receives, ticks};
 ghost use Rattle.switchboard.specs.Ready.{IsFirst, IsReady, entries_of};
 ghost use Rattle.switchboard.specs.Sound.{IsLawful, IsPlugged, IsSameLine, IsSound, bound_of};
+ghost use Rattle.switchboard.specs.Stops.{HaveSameSessions, NothingIsTold, StopsIn, is_untold};
 ghost use Rattle.switchboard.specs.Told.{ComeInOrder, History, IsTold, history_after, history_over, machines_of, moment_after, moment_over, no_history};
 
 use connection_core::items_stay_queued;
 use session_book::laws::{
-    beats_come_in_time, sends_are_told, sessions_go_on, texts_are_told, texts_stay,
+    beats_come_in_time, leases_stay, sends_are_told, sessions_go_on, texts_are_told, texts_stay,
 };
 
 /// Sessions and connections stay sound: each session is bound to a connection just where it has a
@@ -147,4 +148,20 @@ pub fn ready_boards_allow()
         → (connection_at board k).cause ≡ None → (s < length board.sessions) × (place_at board s ≡ Some k) }
 {
     texts_are_told();
+}
+
+/// Of what nothing is told in a record, and what is told where memory was wanting.
+pub fn stops_are_told()
+    // Nothing happened; one thing behind another; and what changes only room and what is to be written.
+    ensures itself { (board : Board) → NothingIsTold board board }
+    ensures further { (first second third : Board) → NothingIsTold first second → NothingIsTold second third → NothingIsTold first third }
+    ensures happening { (happening : Happening) (old new : Board) → is_untold happening ≡ true → Happens happening old new → NothingIsTold old new }
+    // Something happened whole, or was begun, and behind it nothing is told.
+    ensures receives { (s k : ℕ) (body : List ℕ) (at : ℕ) (old between new : Board) → Happens (receives s k body at) old between → NothingIsTold between new → StopsIn (receives s k body at) old new }
+    ensures binds { (s k : ℕ) (body : List ℕ) (at : ℕ) (old between new : Board) → BindsTo s k body at old between → NothingIsTold between new → StopsIn (binds s k body at) old new }
+    ensures ticks { (s at : ℕ) (old between new : Board) → Happens (ticks s at) old between → NothingIsTold between new → StopsIn (ticks s at) old new }
+    // Where it stops no session comes or goes, and each has the names and the leases that it had.
+    ensures sessions { (happening : Happening) (old new : Board) → StopsIn happening old new → HaveSameSessions old new }
+{
+    leases_stay();
 }

@@ -12,6 +12,7 @@ ghost use Rattle.session_book.specs.Book.{next_number};
 ghost use Rattle.session_book.specs.Words.{after_timeout, after_word, shown_sends};
 ghost use Rattle.switchboard.specs.Board.{DeskChanges, book_at, desk_at, outlet_at, place_at, session_at, with_session};
 ghost use Rattle.switchboard.specs.Happenings.{Happens, lapses, requests, reserves, shows, times_out};
+ghost use Rattle.switchboard.specs.Stops.{NothingIsTold};
 
 use crate::board::{Switchboard, is_lawful};
 use gate_io::{Bytes, LAST_MOMENT, NoMemory};
@@ -48,6 +49,7 @@ impl Switchboard {
         ensures others { self.new ≡ with_session s (session_at self.new s) self.old }
         ensures happens { OnOk result (Happens (requests s library nr from) self.old self.new) }
         ensures err { OnErr result (book_at self.new s ≡ book_at self.old s) }
+        ensures nothing { OnErr result (NothingIsTold self.old self.new) }
     {
         let reply = self.sessions[s].request(library, nr, from)?;
         is_lawful(&self.sessions[s]);
@@ -63,6 +65,7 @@ impl Switchboard {
         ensures others { self.new ≡ with_session s (session_at self.new s) self.old }
         ensures happens { OnOk result (Happens (lapses s) self.old self.new) }
         ensures err { OnErr result (book_at self.new s ≡ book_at self.old s) }
+        ensures nothing { OnErr result (NothingIsTold self.old self.new) }
     {
         self.sessions[s].lapse()?;
         is_lawful(&self.sessions[s]);

@@ -14,6 +14,7 @@ ghost use Rattle.session_core.specs.Tick.{after_tick, tick};
 ghost use Rattle.session_core.specs.declared.phases.Phase.TheVariants as Phase;
 ghost use Rattle.switchboard.specs.Board.{DeskChanges, book_at, connection_at, desk_at, desk_with, outgoing_at, place_at, session_at, with_connection};
 ghost use Rattle.switchboard.specs.Happenings.{Happens, gives, receives, takes, ticks};
+ghost use Rattle.switchboard.specs.Stops.{StopsIn};
 
 use crate::board::{Switchboard, is_lawful};
 use connection_core::OwnedPiece;
@@ -71,6 +72,8 @@ impl Switchboard {
         requires on { (book_at self.old s).machine.phase ≢ Phase.Off }
         ensures ok { OnOk result (desk_with self.new s (Some k) ≡ after_message at body.items (desk_with self.old s (Some k))) }
         ensures end { IfOk result (λ end. end ≡ (receive (book_at self.old s).machine body.items at).end) }
+        // Without memory it didn't happen, or was begun.
+        ensures stops { OnErr result (place_at self.old s ≡ Some k → StopsIn (receives s k body.items at) self.old self.new) }
         // Without memory nothing happened, or the message was counted and some of the acts were carried out.
         ensures begun { OnErr result ((desk_with self.new s (Some k) ≡ desk_with self.old s (Some k)) ⊎ IsBegun at (receive (book_at self.old s).machine body.items at).acts (with_outbox (with_machine (after_receive (book_at self.old s).machine body.items at) (book_at self.old s)) (outgoing_at self.old (Some k))) (desk_with self.new s (Some k))) }
         ensures others { DeskChanges s (Some k) self.old self.new }
@@ -91,6 +94,8 @@ impl Switchboard {
         requires place { IfSome (place_at self.old s) (λ k. k < length self.old.connections) }
         ensures ok { OnOk result (desk_at self.new s ≡ after_ticking at (desk_at self.old s)) }
         ensures end { IfOk result (λ end. end ≡ (tick (book_at self.old s).machine at).end) }
+        // Without memory it didn't happen, or was begun.
+        ensures stops { OnErr result (StopsIn (ticks s at) self.old self.new) }
         ensures begun { OnErr result ((desk_at self.new s ≡ desk_at self.old s) ⊎ IsBegun at (tick (book_at self.old s).machine at).acts (with_outbox (with_machine (after_tick (book_at self.old s).machine at) (book_at self.old s)) (outgoing_at self.old (place_at self.old s))) (desk_at self.new s)) }
         ensures others { DeskChanges s (place_at self.old s) self.old self.new }
         ensures phase { (book_at self.new s).machine.phase ≡ (book_at self.old s).machine.phase }

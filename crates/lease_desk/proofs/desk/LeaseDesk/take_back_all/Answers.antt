@@ -1,7 +1,8 @@
 use Rattle.std.proofs.Common.{add-one, ap, below_more, sym, ◌∙◌, arith}
 use Rattle.lease_core.specs.State.{owner_of, state_of}
 use Rattle.session_book.specs.Book.{Book}
-use Rattle.lease_desk.proofs.GoingOn.{goes_on_further}
+use Rattle.lease_desk.specs.Desk.{TakesBackSome}
+use Rattle.lease_desk.proofs.GoingOn.{goes_on_further, on_err}
 use Rattle.lease_desk.proofs.desk.LeaseDesk.take_back_all.Goals as goal
 
 pub loop-s-preserved : goal.loop-s-preserved
@@ -19,3 +20,14 @@ loop-s-preserved c =
       none_comes = now.none_comes ∙ was.none_comes;
       sessions = now.sessions ∙ was.sessions;
     }
+
+pub returns-in_err-take_back_from-clause-stops : goal.returns-in_err-take_back_from-clause-stops
+returns-in_err-take_back_from-clause-stops c =
+    let some : TakesBackSome c.args.library c.args.at c.args.until c.args.self.now c.take_back_from.new.self = record {
+      count = c.loop-s.s;
+      few = (let count = c.sessions-s-end.ensures.sessions in let small = c.loop-s-test.true in omega arith);
+      between = c.loop-s.self;
+      taken_back = c.loop-s.invariant.turn;
+      stops = c.in_err-take_back_from.ensures.nothing;
+    } in
+    on_err c.from_residual.result some
