@@ -2,3 +2,4 @@ pub mod Cursors
 pub mod Links
 pub mod Pumped
 pub mod Running
+pub mod Stopped

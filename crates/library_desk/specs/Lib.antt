@@ -1,2 +1,3 @@
 pub mod Happening
 pub mod Serving
+pub mod Stops

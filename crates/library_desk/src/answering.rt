@@ -2,6 +2,7 @@
 
 ghost use Rattle.std.specs.Prelude.{◌≡◌, ◌≤◌, length, IfOk, OnErr};
 ghost use Rattle.library_desk.specs.Serving.{IsLinked, IsInOrder, RepliesTo};
+ghost use Rattle.switchboard.specs.Stops.{NothingIsTold};
 
 use crate::desk::{LibraryDesk, Stray};
 use crate::shared::Shared;
@@ -24,6 +25,7 @@ impl LibraryDesk {
         requires library { (1 ≤ library) × (library ≤ length self.old.ends.items) }
         requires ready { IsInOrder self.old }
         ensures replies { IfOk result (λ notice. RepliesTo library nr s from self.old self.new notice) }
+        ensures nothing { OnErr result (NothingIsTold self.old.desk.board self.new.desk.board) }
         ensures linked { IsLinked shared.now self.new }
         ensures ready { IsInOrder self.new }
         ensures none_comes { length self.new.desk.board.connections ≡ length self.old.desk.board.connections }

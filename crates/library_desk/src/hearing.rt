@@ -1,7 +1,7 @@
 //! Which library fell silent, and what becomes of its sessions.
 
 ghost use Rattle.std.specs.Prelude.{◌≡◌, ◌≤◌, ◌↔◌, ℕ, length, IsTrue, OnErr, OnOk};
-ghost use Rattle.lease_desk.specs.Desk.{InTurn, TakesBackFrom};
+ghost use Rattle.lease_desk.specs.Desk.{InTurn, TakesBackFrom, TakesBackSome};
 ghost use Rattle.lease_words.specs.Views.{heard_of};
 ghost use Rattle.library_desk.specs.Serving.{Hears, IsLinked, IsInOrder, IsSilent};
 
@@ -43,6 +43,7 @@ impl LibraryDesk {
         requires moment { at ≤ LAST_MOMENT }
         requires ready { IsInOrder self.old }
         ensures taken_back { OnOk result (InTurn (TakesBackFrom library at until) (length self.old.desk.board.sessions) self.old.desk self.new.desk) }
+        ensures stops { OnErr result (TakesBackSome library at until self.old.desk self.new.desk) }
         ensures rest { self.new ≡ record self.old { desk = self.new.desk } }
         ensures linked { IsLinked shared.now self.new }
         ensures ready { IsInOrder self.new }

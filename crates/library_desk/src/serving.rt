@@ -1,7 +1,9 @@
 //! One library in a turn.
 
-ghost use Rattle.std.specs.Prelude.{◌≡◌, ◌≤◌, length, IfOk, OnOk};
+ghost use Rattle.std.specs.Prelude.{◌≡◌, ◌≤◌, length, IfOk, OnOk, OnErr};
+ghost use Rattle.library_desk.specs.Stops.{StopsServing};
 ghost use Rattle.library_desk.specs.Serving.{Answers, HasRoomFor, IsLinked, IsInOrder, LooksAt, OnPopped, Serves, TellsTo};
+ghost use Rattle.switchboard.specs.Stops.{NothingIsTold};
 
 use crate::desk::LibraryDesk;
 use crate::ends::Next;
@@ -41,6 +43,7 @@ impl LibraryDesk {
         requires moment { at ≤ LAST_MOMENT }
         requires ready { IsInOrder self.old }
         ensures serves { IfOk result (λ turn. Serves library at until self.old self.new turn) }
+        ensures stops { OnErr result (StopsServing library at until self.old self.new) }
         ensures linked { IsLinked shared.now self.new }
         ensures ready { IsInOrder self.new }
         ensures none_comes { length self.new.desk.board.connections ≡ length self.old.desk.board.connections }
@@ -59,6 +62,7 @@ impl LibraryDesk {
         requires library { (1 ≤ library) × (library ≤ length self.old.ends.items) }
         requires ready { IsInOrder self.old }
         ensures answers { IfOk result (λ turn. Answers library self.old self.new turn) }
+        ensures nothing { OnErr result (NothingIsTold self.old.desk.board self.new.desk.board) }
         ensures linked { IsLinked shared.now self.new }
         ensures ready { IsInOrder self.new }
         ensures none_comes { length self.new.desk.board.connections ≡ length self.old.desk.board.connections }

@@ -3,3 +3,4 @@ pub mod Same
 pub mod Proceeding
 pub mod RoutedTo
 pub mod Counting
+pub mod Stopping

@@ -1,10 +1,12 @@
 //! A session dials.
 
-ghost use Rattle.std.specs.Prelude.{◌≡◌, ◌<◌, ◌≤◌, ◌+◌, length, None, IfOk, IsSome, OnOk};
+ghost use Rattle.std.specs.Prelude.{◌≡◌, ◌<◌, ◌≤◌, ◌+◌, length, None, IfOk, IsSome, OnOk, OnErr};
+ghost use Rattle.session_desk.specs.Stops.{StopsDialling};
 ghost use Rattle.lease_desk.specs.Desk.{AllAgree};
 ghost use Rattle.session_desk.specs.Steps.{DialsTo, IsSteady, Proceeds};
 ghost use Rattle.switchboard.specs.Board.{book_at, place_at};
 ghost use Rattle.switchboard.specs.Happenings.{Happens, IsNewNumber, dials};
+ghost use Rattle.switchboard.specs.Stops.{StopsIn};
 
 use crate::laws::sessions_proceed;
 use crate::steps::gather;
@@ -38,6 +40,7 @@ pub fn dial(
     requires new_number { IsNewNumber desk.old.board number }
     requires steady { IsSteady desk.old.board desk.old.seat }
     ensures place { IfOk result (λ k. k ≡ length desk.old.board.connections) }
+    ensures stops { OnErr result (StopsDialling s number at until desk.old desk.new) }
     ensures dials { OnOk result (DialsTo s number at until desk.old desk.new) }
     ensures steady { OnOk result (IsSteady desk.new.board desk.new.seat) }
     ensures proceeds { OnOk result (Proceeds desk.old.board desk.new.board) }
@@ -67,6 +70,7 @@ fn bind_next(
     requires new_number { IsNewNumber desk.old.board number }
     requires steady { IsSteady desk.old.board desk.old.seat }
     ensures place { IfOk result (λ k. k ≡ length desk.old.board.connections) }
+    ensures stops { OnErr result (StopsIn (dials s number at) desk.old.board desk.new.board) }
     ensures happens { OnOk result (Happens (dials s number at) desk.old.board desk.new.board) }
     ensures steady { OnOk result (IsSteady desk.new.board desk.new.seat) }
     ensures proceeds { OnOk result (Proceeds desk.old.board desk.new.board) }

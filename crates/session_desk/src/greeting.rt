@@ -1,7 +1,9 @@
 //! The first message of a connection.
 
-ghost use Rattle.std.specs.Prelude.{◌≡◌, ◌<◌, ◌≤◌, length, slice_index_or, IfOk, IsNone, None, Some, OnErr, OnOk};
+ghost use Rattle.std.specs.Prelude.{◌≡◌, ◌<◌, ◌≤◌, length, slice_index_or, IfOk, IsNone, None, Some, OnErr, OnOk, ◌⊎◌, Option};
 ghost use Rattle.std.specs.Result.{result_ok};
+ghost use Rattle.session_core.specs.declared.causes.Cause.{Cause as TheCause};
+ghost use Rattle.session_desk.specs.Stops.{HappensLast, StopsBinding, StopsGreeting};
 ghost use Rattle.fix_fields.specs.Reading.{fields_of};
 ghost use Rattle.lease_desk.specs.Desk.{AllAgree};
 ghost use Rattle.session_core.specs.Receive.{receive};
@@ -11,6 +13,7 @@ ghost use Rattle.session_desk.specs.Steps.{AreNoted, AreRoutes, BindsBy, Greets,
 ghost use Rattle.switchboard.specs.Board.{book_at, connection_at, place_at};
 ghost use Rattle.switchboard.specs.Happenings.{BindsTo, Happens, binds, ends_bound};
 ghost use Rattle.switchboard.specs.Sound.{bound_of};
+ghost use Rattle.switchboard.specs.Stops.{NothingIsTold, StopsIn};
 
 use crate::laws::sessions_proceed;
 use crate::parting::end_alone;
@@ -25,7 +28,7 @@ use session_book::Unkept;
 use session_book::laws::{leases_stay, sessions_go_on};
 use session_core::{Cause, route, session_of};
 use std::alloc::Global;
-use switchboard::laws::boards_stay_ready;
+use switchboard::laws::{boards_stay_ready, stops_are_told};
 
 /// The first message of a connection that stands binds the session to which it is routed, behind what
 /// the session's library did: that is gathered. Or it has a cause by which the connection ends with
@@ -54,6 +57,7 @@ pub fn greet(
     requires few_routes { length routes.now.names.items ≤ MOST_SESSIONS }
     requires noted { AreNoted unkept.old.items desk.old.board }
     requires steady { IsSteady desk.old.board desk.old.seat }
+    ensures stops { OnErr result (StopsGreeting k body.items at until desk.old desk.new) }
     ensures greets { IfOk result (λ end. Greets routes.now k body.items at until desk.old desk.new unkept.old.items unkept.new.items end) }
     ensures steady { OnOk result (IsSteady desk.new.board desk.new.seat) }
     ensures noted { OnOk result (AreNoted unkept.new.items desk.new.board) }
@@ -63,6 +67,7 @@ pub fn greet(
     ensures sessions { length desk.new.board.sessions ≡ length desk.old.board.sessions }
     ensures none_comes { length desk.new.board.connections ≡ length desk.old.board.connections }
 {
+    stops_are_told();
     match destination(alloc, desk, routes, body.as_slice())? {
         Err(cause) => {
             end_alone(desk, k, cause);
@@ -98,6 +103,7 @@ fn admit(
     requires logon { IsLogon body.items }
     requires noted { AreNoted unkept.old.items desk.old.board }
     requires steady { IsSteady desk.old.board desk.old.seat }
+    ensures stops { OnErr result (StopsBinding s k body.items at until desk.old desk.new) }
     ensures binds { IfOk result (λ end. BindsBy s k body.items at until desk.old desk.new unkept.old.items unkept.new.items end) }
     ensures steady { OnOk result (IsSteady desk.new.board desk.new.seat) }
     ensures noted { OnOk result (AreNoted unkept.new.items desk.new.board) }
@@ -108,6 +114,7 @@ fn admit(
     ensures none_comes { length desk.new.board.connections ≡ length desk.old.board.connections }
 {
     sessions_proceed();
+    stops_are_told();
     gather(alloc, desk, leases, s, at, until)?;
     note(desk, unkept, s)?;
     let end = bind(alloc, desk, unkept, s, k, body, at)?;
@@ -193,6 +200,7 @@ fn bind(
     requires steady { IsSteady desk.old.board desk.old.seat }
     ensures end { IfOk result (λ end. end ≡ (receive (book_at desk.old.board s).machine body.items at).end) }
     ensures binds { IfOk result (λ end. Happens (binding s k body.items at end) desk.old.board desk.new.board) }
+    ensures stops { OnErr result (StopsIn (binds s k body.items at) desk.old.board desk.new.board ⊎ ((end : Option TheCause) × HappensLast (binding s k body.items at end) desk.old.board desk.new.board)) }
     ensures notes { OnOk result (unkept.new.items ≡ bind_noted s (book_at desk.old.board s).machine.line.expected desk.new.board unkept.old.items) }
     ensures steady { OnOk result (IsSteady desk.new.board desk.new.seat) }
     ensures noted { OnOk result (AreNoted unkept.new.items desk.new.board) }
@@ -203,6 +211,7 @@ fn bind(
     ensures seat { desk.new.seat ≡ desk.old.seat }
 {
     sessions_proceed();
+    stops_are_told();
     let before = desk.board.session(s as usize).expected();
     let end = take_logon(alloc, desk, s, k, body, at)?;
     let s = s as usize;
@@ -229,6 +238,7 @@ fn take_logon(
     requires logon { IsLogon body.items }
     requires steady { IsSteady desk.old.board desk.old.seat }
     ensures end { IfOk result (λ end. end ≡ (receive (book_at desk.old.board s).machine body.items at).end) }
+    ensures stops { OnErr result (StopsIn (binds s k body.items at) desk.old.board desk.new.board) }
     ensures binds { IfOk result (λ end. Happens (binding s k body.items at end) desk.old.board desk.new.board) }
     ensures steady { OnOk result (IsSteady desk.new.board desk.new.seat) }
     ensures proceeds { OnOk result (Proceeds desk.old.board desk.new.board) }
@@ -240,6 +250,7 @@ fn take_logon(
     boards_stay_ready();
     boards_stay_in_step();
     sessions_proceed();
+    stops_are_told();
     let end = open(alloc, desk, s, k, body, at)?;
     match end {
         None => Ok(None),
@@ -269,6 +280,7 @@ fn open(
     requires logon { IsLogon body.items }
     requires steady { IsSteady desk.old.board desk.old.seat }
     ensures end { IfOk result (λ end. end ≡ (receive (book_at desk.old.board s).machine body.items at).end) }
+    ensures stops { OnErr result (StopsIn (binds s k body.items at) desk.old.board desk.new.board) }
     ensures binds { OnOk result (BindsTo s k body.items at desk.old.board desk.new.board) }
     ensures happens { IfOk result (λ end. end ≡ None → Happens (binds s k body.items at) desk.old.board desk.new.board) }
     ensures placed { OnOk result (place_at desk.new.board s ≡ Some k) }
@@ -292,6 +304,7 @@ fn leave(desk: &mut LeaseDesk, s: u16, k: usize, cause: Cause) -> Result<(), NoM
     requires placed { place_at desk.old.board s ≡ Some k }
     requires bound { bound_of (book_at desk.old.board s) ≡ Some (connection_at desk.old.board k).number }
     requires agree { AllAgree desk.old.board desk.old.seat }
+    ensures nothing { OnErr result (NothingIsTold desk.old.board desk.new.board) }
     ensures happens { OnOk result (Happens (ends_bound s k cause) desk.old.board desk.new.board) }
     ensures agree { OnErr result (AllAgree desk.new.board desk.new.seat) }
     ensures sessions { length desk.new.board.sessions ≡ length desk.old.board.sessions }

@@ -1,11 +1,13 @@
 //! A message on the connection of a session.
 
-ghost use Rattle.std.specs.Prelude.{◌≡◌, ◌<◌, ◌≤◌, ◌∷◌, ◌++◌, [], length, Some, IfOk, OnOk};
+ghost use Rattle.std.specs.Prelude.{◌≡◌, ◌<◌, ◌≤◌, ◌∷◌, ◌++◌, [], length, Some, IfOk, OnOk, OnErr};
+ghost use Rattle.session_desk.specs.Stops.{StopsHearing};
 ghost use Rattle.lease_desk.specs.Desk.{AllAgree};
 ghost use Rattle.session_core.specs.Receive.{receive};
 ghost use Rattle.session_desk.specs.Steps.{AreNoted, Hears, IsSteady, Proceeds, answering, ending};
 ghost use Rattle.switchboard.specs.Board.{book_at, place_at};
 ghost use Rattle.switchboard.specs.Happenings.{Happens, Reaches, answers, ends_bound, receives};
+ghost use Rattle.switchboard.specs.Stops.{NothingIsTold, StopsIn};
 
 use crate::laws::sessions_proceed;
 use crate::steps::{end as end_connection, gather, note};
@@ -17,7 +19,7 @@ use session_book::Unkept;
 use session_book::laws::{leases_stay, sessions_go_on};
 use session_core::Cause;
 use std::alloc::Global;
-use switchboard::laws::{boards_stay_ready, ready_boards_allow};
+use switchboard::laws::{boards_stay_ready, ready_boards_allow, stops_are_told};
 
 /// A session hears a message on its connection, behind what its library did: that is gathered. Answers
 /// the cause by which the connection ended, if it did. Behind the moment `until` a hold lapses.
@@ -40,6 +42,7 @@ pub fn hear(
     requires placed { place_at desk.old.board s ≡ Some k }
     requires noted { AreNoted unkept.old.items desk.old.board }
     requires steady { IsSteady desk.old.board desk.old.seat }
+    ensures stops { OnErr result (StopsHearing s k body.items at until desk.old desk.new) }
     ensures hears { IfOk result (λ end. Hears s k body.items at until desk.old desk.new unkept.old.items unkept.new.items end) }
     ensures steady { OnOk result (IsSteady desk.new.board desk.new.seat) }
     ensures proceeds { OnOk result (Proceeds desk.old.board desk.new.board) }
@@ -50,6 +53,7 @@ pub fn hear(
     ensures none_comes { length desk.new.board.connections ≡ length desk.old.board.connections }
 {
     sessions_proceed();
+    stops_are_told();
     gather(alloc, desk, leases, s, at, until)?;
     note(desk, unkept, s)?;
     let end = take_message(alloc, desk, s, k, body, at)?;
@@ -71,6 +75,7 @@ fn take_message(
     requires placed { place_at desk.old.board s ≡ Some k }
     requires steady { IsSteady desk.old.board desk.old.seat }
     ensures end { IfOk result (λ end. end ≡ (receive (book_at desk.old.board s).machine body.items at).end) }
+    ensures stops { OnErr result (StopsIn (receives s k body.items at) desk.old.board desk.new.board) }
     ensures happens { OnOk result (Happens (receives s k body.items at) desk.old.board desk.new.board) }
     ensures steady { OnOk result (IsSteady desk.new.board desk.new.seat) }
     ensures proceeds { OnOk result (Proceeds desk.old.board desk.new.board) }
@@ -98,6 +103,7 @@ fn settle(desk: &mut LeaseDesk, s: u16, k: usize, end: Option<Cause>) -> Result<
     requires session { s < length desk.old.board.sessions }
     requires placed { place_at desk.old.board s ≡ Some k }
     requires steady { IsSteady desk.old.board desk.old.seat }
+    ensures nothing { OnErr result (NothingIsTold desk.old.board desk.new.board) }
     ensures follows { OnOk result (Reaches (answering k end ++ ending s (Some k) end) desk.old.board desk.new.board) }
     ensures steady { OnOk result (IsSteady desk.new.board desk.new.seat) }
     ensures proceeds { OnOk result (Proceeds desk.old.board desk.new.board) }
@@ -108,6 +114,7 @@ fn settle(desk: &mut LeaseDesk, s: u16, k: usize, end: Option<Cause>) -> Result<
 {
     boards_stay_ready();
     sessions_proceed();
+    stops_are_told();
     answer_unless_refused(desk, s, k, end);
     end_by(desk, s, k, end)
 }
@@ -139,6 +146,7 @@ fn end_by(desk: &mut LeaseDesk, s: u16, k: usize, end: Option<Cause>) -> Result<
     requires session { s < length desk.old.board.sessions }
     requires placed { place_at desk.old.board s ≡ Some k }
     requires steady { IsSteady desk.old.board desk.old.seat }
+    ensures nothing { OnErr result (NothingIsTold desk.old.board desk.new.board) }
     ensures ends { OnOk result (Reaches (ending s (Some k) end) desk.old.board desk.new.board) }
     ensures steady { OnOk result (IsSteady desk.new.board desk.new.seat) }
     ensures proceeds { OnOk result (Proceeds desk.old.board desk.new.board) }

@@ -1,10 +1,11 @@
 //! A connection ends.
 
-ghost use Rattle.std.specs.Prelude.{◌≡◌, ◌<◌, length, IsNone, OnOk};
+ghost use Rattle.std.specs.Prelude.{◌≡◌, ◌<◌, length, IsNone, OnOk, OnErr};
 ghost use Rattle.lease_desk.specs.Desk.{AllAgree};
 ghost use Rattle.session_desk.specs.Steps.{IsSteady, Proceeds, parting};
 ghost use Rattle.switchboard.specs.Board.{connection_at};
 ghost use Rattle.switchboard.specs.Happenings.{Happens, ends_unbound};
+ghost use Rattle.switchboard.specs.Stops.{NothingIsTold};
 
 use crate::laws::sessions_proceed;
 use crate::steps::end;
@@ -19,6 +20,7 @@ pub fn part(desk: &mut LeaseDesk, k: usize, cause: Cause) -> Result<(), NoMemory
     requires connection { k < length desk.old.board.connections }
     requires stands { IsNone (connection_at desk.old.board k).cause }
     requires steady { IsSteady desk.old.board desk.old.seat }
+    ensures nothing { OnErr result (NothingIsTold desk.old.board desk.new.board) }
     ensures parts { OnOk result (Happens (parting (connection_at desk.old.board k).session k cause) desk.old.board desk.new.board) }
     ensures seat { desk.new.seat ≡ desk.old.seat }
     ensures steady { OnOk result (IsSteady desk.new.board desk.new.seat) }

@@ -8,6 +8,7 @@ ghost use Rattle.session_desk.specs.Steps.{AreNoted, HaveSameLines, IsSteady, Pr
 ghost use Rattle.switchboard.specs.Board.{book_at, place_at};
 ghost use Rattle.switchboard.specs.Happenings.{Happens, ends_bound};
 ghost use Rattle.switchboard.specs.Sound.{bound_of};
+ghost use Rattle.switchboard.specs.Stops.{NothingIsTold};
 
 use crate::laws::sessions_proceed;
 use gate_io::{LAST_MOMENT, NoMemory};
@@ -34,6 +35,7 @@ pub(crate) fn gather(
     requires session { s < length desk.old.board.sessions }
     requires seated { s < leases.now.shape.sessions }
     requires steady { IsSteady desk.old.board desk.old.seat }
+    ensures nothing { OnErr result (NothingIsTold desk.old.board desk.new.board) }
     ensures gathers { OnOk result (Gathers s at until desk.old desk.new) }
     ensures steady { IsSteady desk.new.board desk.new.seat }
     ensures proceeds { OnOk result (Proceeds desk.old.board desk.new.board) }
@@ -57,6 +59,7 @@ pub(crate) fn end(desk: &mut LeaseDesk, s: u16, k: usize, cause: Cause) -> Resul
     requires session { s < length desk.old.board.sessions }
     requires placed { place_at desk.old.board s ≡ Some k }
     requires steady { IsSteady desk.old.board desk.old.seat }
+    ensures nothing { OnErr result (NothingIsTold desk.old.board desk.new.board) }
     ensures happens { OnOk result (Happens (ends_bound s k cause) desk.old.board desk.new.board) }
     ensures steady { OnOk result (IsSteady desk.new.board desk.new.seat) }
     ensures proceeds { OnOk result (Proceeds desk.old.board desk.new.board) }

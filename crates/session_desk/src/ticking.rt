@@ -1,12 +1,14 @@
 //! The clock, as a session hears it.
 
-ghost use Rattle.std.specs.Prelude.{◌≡◌, ◌<◌, ◌≤◌, ◌∷◌, [], length, IfOk, OnOk};
+ghost use Rattle.std.specs.Prelude.{◌≡◌, ◌<◌, ◌≤◌, ◌∷◌, [], length, IfOk, OnOk, OnErr};
+ghost use Rattle.session_desk.specs.Stops.{StopsTicking};
 ghost use Rattle.lease_core.specs.State.{state_of};
 ghost use Rattle.lease_desk.specs.Desk.{AllAgree};
 ghost use Rattle.session_core.specs.Tick.{tick};
 ghost use Rattle.session_desk.specs.Steps.{IsSteady, Proceeds, Ticks, ending, lapsing};
 ghost use Rattle.switchboard.specs.Board.{book_at, place_at};
 ghost use Rattle.switchboard.specs.Happenings.{Happens, Reaches, ticks};
+ghost use Rattle.switchboard.specs.Stops.{NothingIsTold, StopsIn};
 
 use crate::laws::sessions_proceed;
 use crate::steps::{end, gather};
@@ -17,7 +19,7 @@ use lease_words::{LANE_SLOTS, Leases};
 use session_book::laws::{leases_stay, sessions_go_on};
 use session_core::Cause;
 use std::alloc::Global;
-use switchboard::laws::{boards_stay_ready, ready_boards_allow};
+use switchboard::laws::{boards_stay_ready, ready_boards_allow, stops_are_told};
 
 /// A session hears the clock, behind what its library did: that is gathered. A reservation lapses whose
 /// time is over, and then the session does what is due. Answers the cause by which its connection ended,
@@ -36,6 +38,7 @@ pub fn tick(
     requires session { s < length desk.old.board.sessions }
     requires seated { s < leases.now.shape.sessions }
     requires steady { IsSteady desk.old.board desk.old.seat }
+    ensures stops { OnErr result (StopsTicking s at until desk.old desk.new) }
     ensures ticks { IfOk result (λ end. Ticks s at until desk.old desk.new end) }
     ensures steady { OnOk result (IsSteady desk.new.board desk.new.seat) }
     ensures proceeds { OnOk result (Proceeds desk.old.board desk.new.board) }
@@ -45,6 +48,7 @@ pub fn tick(
     ensures none_comes { length desk.new.board.connections ≡ length desk.old.board.connections }
 {
     sessions_proceed();
+    stops_are_told();
     gather(alloc, desk, leases, s, at, until)?;
     lapse(desk, s, at)?;
     let cause = take_tick(alloc, desk, s, at)?;
@@ -56,6 +60,7 @@ pub fn tick(
 fn lapse(desk: &mut LeaseDesk, s: u16, at: u64) -> Result<(), NoMemory>
     requires session { s < length desk.old.board.sessions }
     requires steady { IsSteady desk.old.board desk.old.seat }
+    ensures nothing { OnErr result (NothingIsTold desk.old.board desk.new.board) }
     ensures lapses { OnOk result (Reaches (lapsing s (state_of (book_at desk.old.board s).entries).reserved at) desk.old.board desk.new.board) }
     ensures steady { OnOk result (IsSteady desk.new.board desk.new.seat) }
     ensures proceeds { OnOk result (Proceeds desk.old.board desk.new.board) }
@@ -90,6 +95,7 @@ fn take_tick(
     requires session { s < length desk.old.board.sessions }
     requires steady { IsSteady desk.old.board desk.old.seat }
     ensures end { IfOk result (λ end. end ≡ (tick (book_at desk.old.board s).machine at).end) }
+    ensures stops { OnErr result (StopsIn (ticks s at) desk.old.board desk.new.board) }
     ensures happens { OnOk result (Happens (ticks s at) desk.old.board desk.new.board) }
     ensures steady { OnOk result (IsSteady desk.new.board desk.new.seat) }
     ensures proceeds { OnOk result (Proceeds desk.old.board desk.new.board) }
@@ -115,6 +121,7 @@ fn take_tick(
 fn end_if_bound(desk: &mut LeaseDesk, s: u16, cause: Option<Cause>) -> Result<(), NoMemory>
     requires session { s < length desk.old.board.sessions }
     requires steady { IsSteady desk.old.board desk.old.seat }
+    ensures nothing { OnErr result (NothingIsTold desk.old.board desk.new.board) }
     ensures follows { OnOk result (Reaches (ending s (place_at desk.old.board s) cause) desk.old.board desk.new.board) }
     ensures steady { OnOk result (IsSteady desk.new.board desk.new.seat) }
     ensures proceeds { OnOk result (Proceeds desk.old.board desk.new.board) }

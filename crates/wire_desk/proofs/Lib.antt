@@ -9,3 +9,4 @@ pub mod Texts
 pub mod OnWire
 pub mod Turn
 pub mod Known
+pub mod Untold

@@ -5,3 +5,4 @@ pub mod Places
 pub mod Planned
 pub mod Steps
 pub mod Texts
+pub mod Stops

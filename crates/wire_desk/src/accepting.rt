@@ -1,6 +1,6 @@
 //! A connection is accepted.
 
-ghost use Rattle.std.specs.Prelude.{◌≡◌, ◌+◌, ◌<◌, ◌≤◌, length, IfOk, OnOk};
+ghost use Rattle.std.specs.Prelude.{◌≡◌, ◌+◌, ◌<◌, ◌≤◌, length, IfOk, OnOk, OnErr};
 ghost use Rattle.gate_io.specs.Wire.{Accepts as TheWireAccepts, AcceptsAsPlanned, OthersStay};
 ghost use Rattle.gate_io.specs.declared.wires.TheConstants.{MOST_CONNECTIONS};
 ghost use Rattle.connection_core.specs.Connection.{room};
@@ -10,6 +10,7 @@ ghost use Rattle.session_desk.specs.Steps.{IsSteady};
 ghost use Rattle.switchboard.specs.Board.{connection_at};
 ghost use Rattle.switchboard.specs.Going.{GoesOnTo};
 ghost use Rattle.switchboard.specs.Happenings.{Happens, IsNewNumber, accepts};
+ghost use Rattle.switchboard.specs.Stops.{NothingIsTold};
 ghost use Rattle.wire_desk.specs.Lines.{IsSetUp, IsWired};
 ghost use Rattle.wire_desk.specs.Places.{listed_behind, open_places};
 ghost use Rattle.wire_desk.specs.Steps.{AcceptsAs};
@@ -22,7 +23,7 @@ use lease_desk::laws::boards_stay_in_step;
 use lease_words::Leases;
 use session_desk::laws::sessions_proceed;
 use std::alloc::Global;
-use switchboard::laws::{boards_go_on, boards_stay_ready};
+use switchboard::laws::{boards_go_on, boards_stay_ready, stops_are_told};
 
 impl WireDesk {
     /// Takes the next connection that waits at the wire, if one does.
@@ -40,6 +41,7 @@ impl WireDesk {
         requires wired { IsWired desk.old.board (open_places self.old) (W.door wire.old) (W.link wire.old) }
         ensures answer { IfOk result (λ accepted. TheWireAccepts (W.door wire.old) (W.door wire.new) (W.link wire.new) accepted) }
         ensures accepts { IfOk result (λ accepted. AcceptsAs accepted at desk.old desk.new) }
+        ensures nothing { OnErr result (NothingIsTold desk.old.board desk.new.board) }
         ensures set_up { OnOk result (IsSetUp leases.now desk.new self.new) }
         ensures wired { OnOk result (IsWired desk.new.board (open_places self.new) (W.door wire.new) (W.link wire.new)) }
         ensures agree { AllAgree desk.new.board desk.new.seat }
@@ -52,6 +54,7 @@ impl WireDesk {
         ensures listed { IfOk result (λ accepted. self.new.accepted.items ≡ listed_behind accepted (length desk.old.board.connections) self.old.accepted.items) }
     {
         lines_progress();
+        stops_are_told();
         self.accepted.reserve(1)?;
         let accepted = wire.accept();
         if let Accepted::New(number) = accepted {
@@ -67,6 +70,7 @@ fn add(alloc: Global, desk: &mut LeaseDesk, number: u32, at: u64) -> Result<usiz
     requires moment { at ≤ LAST_MOMENT }
     requires new_number { IsNewNumber desk.old.board number }
     requires steady { IsSteady desk.old.board desk.old.seat }
+    ensures nothing { OnErr result (NothingIsTold desk.old.board desk.new.board) }
     ensures accepts { OnOk result (Happens (accepts number at) desk.old.board desk.new.board) }
     ensures place { IfOk result (λ k. k ≡ length desk.old.board.connections) }
     ensures room { IfOk result (λ k. MOST_READ ≤ room (connection_at desk.new.board k)) }
@@ -80,6 +84,7 @@ fn add(alloc: Global, desk: &mut LeaseDesk, number: u32, at: u64) -> Result<usiz
     boards_stay_ready();
     boards_stay_in_step();
     boards_go_on();
+    stops_are_told();
     let k = desk.board.accept(alloc, number, at)?;
     Ok(k)
 }

@@ -12,6 +12,7 @@ ghost use Rattle.switchboard.specs.Going.{GoesOnTo};
 ghost use Rattle.wire_desk.specs.Dials.{DialsAs, IsDialDue, IsDialling, IsScheduled, WaitBehindEnded, WaitsBy, WaitsIfEnded, plan_at};
 ghost use Rattle.wire_desk.specs.Lines.{IsSetUp, IsWired};
 ghost use Rattle.wire_desk.specs.Places.{dialled_behind, open_places};
+ghost use Rattle.wire_desk.specs.Stops.{StopsCalling};
 ghost use Rattle.wire_desk.specs.declared.dialling.Dialler.{Dialler};
 
 use crate::desk::WireDesk;
@@ -24,7 +25,7 @@ use session_book::laws::what_is_told_is_queued;
 use session_desk::dial as dial_session;
 use session_desk::laws::sessions_proceed;
 use std::alloc::Global;
-use switchboard::laws::{boards_go_on, boards_stay_ready, ready_boards_allow};
+use switchboard::laws::{boards_go_on, boards_stay_ready, ready_boards_allow, stops_are_told};
 
 /// The sessions that dial: where to, and when next.
 #[derive(Drop)]
@@ -65,6 +66,7 @@ impl Dialler {
         ensures others { OthersStay (W.link wire.old) (W.link wire.new) (FIRST_DIALLED + (W.door wire.old).dialled) }
         ensures address { IfOk result (λ answer. IfSome answer (λ dialled. IfSome (plan_at self.old s) (λ plan. W.dial_gives wire.old plan.address dialled wire.new))) }
         ensures dials { IfOk result (λ answer. DialsAs answer s at until desk.old desk.new self.old self.new) }
+        ensures stops { OnErr result (StopsCalling (W.door wire.old).dialled s at until desk.old desk.new) }
         ensures proceeds { OnOk result (Proceeds desk.old.board desk.new.board) }
         ensures set_up { OnOk result (IsSetUp leases.now desk.new lines.new) }
         ensures wired { OnOk result (IsWired desk.new.board (open_places lines.new) (W.door wire.new) (W.link wire.new)) }
@@ -83,6 +85,7 @@ impl Dialler {
         boards_go_on();
         boards_stay_ready();
         what_is_told_is_queued();
+        stops_are_told();
         if !self.is_due(desk, s, at) {
             return Ok(None);
         }

@@ -1,6 +1,6 @@
 //! What came on a connection is handled.
 
-ghost use Rattle.std.specs.Prelude.{◌≡◌, ◌<◌, ◌≤◌, length, option_map, true, false, None, IfNone, IfOk, IfSome, IsNone, OnOk};
+ghost use Rattle.std.specs.Prelude.{◌≡◌, ◌<◌, ◌≤◌, length, option_map, true, false, None, IfNone, IfOk, IfSome, IsNone, OnOk, OnErr};
 ghost use Rattle.std.specs.Option.{option_to_list};
 ghost use Rattle.connection_core.specs.Connection.{room};
 ghost use Rattle.connection_core.specs.declared.limits.TheConstants.{MOST_READ};
@@ -9,8 +9,10 @@ ghost use Rattle.lease_desk.specs.Desk.{AllAgree};
 ghost use Rattle.session_desk.specs.Steps.{IsSteady, Proceeds};
 ghost use Rattle.switchboard.specs.Board.{connection_at};
 ghost use Rattle.switchboard.specs.Happenings.{Happens, gives, next_pieces};
+ghost use Rattle.switchboard.specs.Stops.{NothingIsTold};
 ghost use Rattle.wire_desk.specs.Lines.{IsSetUp};
 ghost use Rattle.wire_desk.specs.Steps.{HandlesAll, HandlesBody, HandlesOrStops, Progresses, sessions_of};
+ghost use Rattle.wire_desk.specs.Stops.{StopsInBody, StopsInPiece, StopsInPieces};
 
 use crate::desk::WireDesk;
 use crate::laws::lines_progress;
@@ -22,7 +24,7 @@ use lease_words::Leases;
 use session_desk::laws::none_comes;
 use session_desk::{greet, hear};
 use std::alloc::Global;
-use switchboard::laws::{boards_go_on, boards_stay_ready, ready_boards_allow};
+use switchboard::laws::{boards_go_on, boards_stay_ready, ready_boards_allow, stops_are_told};
 
 impl WireDesk {
     /// Handles the pieces of what was taken on a connection, one after another, until it ends or there is
@@ -39,6 +41,7 @@ impl WireDesk {
         requires moment { at ≤ LAST_MOMENT }
         requires set_up { IsSetUp leases.now desk.old self.old }
         requires connection { k < length desk.old.board.connections }
+        ensures stops { OnErr result (StopsInPieces self.old.routes k at until (sessions_of desk.old self.old.unkept.items) desk.new) }
         ensures handles { OnOk result (HandlesAll self.old.routes k at until (sessions_of desk.old self.old.unkept.items) (sessions_of desk.new self.new.unkept.items)) }
         ensures rest { self.new ≡ record self.old { unkept = self.new.unkept } }
         ensures set_up { OnOk result (IsSetUp leases.now desk.new self.new) }
@@ -69,6 +72,7 @@ impl WireDesk {
         requires moment { at ≤ LAST_MOMENT }
         requires set_up { IsSetUp leases.now desk.old self.old }
         requires connection { k < length desk.old.board.connections }
+        ensures stops { OnErr result (StopsInPiece k at until desk.old desk.new) }
         ensures handles { IfOk result (λ more. HandlesOrStops more self.old.routes k at until (sessions_of desk.old self.old.unkept.items) (sessions_of desk.new self.new.unkept.items)) }
         ensures fewer { IfOk result (λ more. more ≡ true → length (connection_at desk.new.board k).held < length (connection_at desk.old.board k).held) }
         ensures roomy { IfOk result (λ more. more ≡ false → (connection_at desk.new.board k).cause ≡ None → MOST_READ ≤ room (connection_at desk.new.board k)) }
@@ -108,6 +112,7 @@ impl WireDesk {
         requires set_up { IsSetUp leases.now desk.old self.old }
         requires connection { k < length desk.old.board.connections }
         requires stands { IsNone (connection_at desk.old.board k).cause }
+        ensures stops { OnErr result (StopsInBody (connection_at desk.old.board k).session k body.items at until desk.old desk.new) }
         ensures handles { OnOk result (HandlesBody (connection_at desk.old.board k).session self.old.routes k body.items at until (sessions_of desk.old self.old.unkept.items) (sessions_of desk.new self.new.unkept.items)) }
         ensures rest { self.new ≡ record self.old { unkept = self.new.unkept } }
         ensures set_up { OnOk result (IsSetUp leases.now desk.new self.new) }
@@ -148,6 +153,7 @@ fn take_piece(alloc: Global, desk: &mut LeaseDesk, k: usize) -> Result<Option<Ow
     requires connection { k < length desk.old.board.connections }
     requires stands { IsNone (connection_at desk.old.board k).cause }
     requires steady { IsSteady desk.old.board desk.old.seat }
+    ensures nothing { OnErr result (NothingIsTold desk.old.board desk.new.board) }
     ensures gives { OnOk result (Happens (gives k) desk.old.board desk.new.board) }
     ensures next { IfOk result (λ given. next_pieces (connection_at desk.old.board k) ≡ option_to_list (option_map cut_piece given)) }
     ensures fewer { IfOk result (λ given. IfSome given (λ piece. length (connection_at desk.new.board k).held < length (connection_at desk.old.board k).held)) }
@@ -164,6 +170,7 @@ fn take_piece(alloc: Global, desk: &mut LeaseDesk, k: usize) -> Result<Option<Ow
     boards_stay_ready();
     boards_stay_in_step();
     boards_go_on();
+    stops_are_told();
     let piece = desk.board.next(alloc, k)?;
     Ok(piece)
 }

@@ -1,6 +1,6 @@
 //! A connection is read.
 
-ghost use Rattle.std.specs.Prelude.{◌≡◌, ◌<◌, ◌≤◌, length, take, None, IfOk, IsNone, IsSome, OnOk};
+ghost use Rattle.std.specs.Prelude.{◌≡◌, ◌<◌, ◌≤◌, length, take, None, IfOk, IsNone, IsSome, OnOk, OnErr, ◌⊎◌};
 ghost use Rattle.connection_core.specs.Connection.{room};
 ghost use Rattle.connection_core.specs.declared.limits.TheConstants.{MOST_READ};
 ghost use Rattle.gate_io.specs.Wire.{LinkGoesOn, OthersStay, ReadHasCause, ReadsAsPlanned, WireGivesFrom, WireGotWithin};
@@ -8,9 +8,11 @@ ghost use Rattle.lease_desk.specs.Desk.{AllAgree};
 ghost use Rattle.session_desk.specs.Steps.{IsSteady, parting};
 ghost use Rattle.switchboard.specs.Board.{connection_at};
 ghost use Rattle.switchboard.specs.Happenings.{Happens, takes};
+ghost use Rattle.switchboard.specs.Stops.{NothingIsTold};
 ghost use Rattle.wire_desk.specs.Lines.{IsSetUp, IsWired};
 ghost use Rattle.wire_desk.specs.Places.{open_places};
 ghost use Rattle.wire_desk.specs.Steps.{LeavesIfTardy, Progresses, Reads, ReadsAs, TakesBytes, sessions_of};
+ghost use Rattle.wire_desk.specs.Stops.{StopsBehindBytes, StopsReading};
 
 use crate::desk::WireDesk;
 use crate::laws::lines_progress;
@@ -22,7 +24,7 @@ use session_core::Cause;
 use session_desk::laws::sessions_proceed;
 use session_desk::part as part_session;
 use std::alloc::Global;
-use switchboard::laws::{boards_go_on, boards_stay_ready};
+use switchboard::laws::{boards_go_on, boards_stay_ready, stops_are_told};
 
 impl WireDesk {
     /// Reads a connection that stands once, and handles what came: bytes are cut and their messages
@@ -43,6 +45,7 @@ impl WireDesk {
         requires wired { IsWired desk.old.board (open_places self.old) (W.door wire.old) (W.link wire.old) }
         requires connection { k < length desk.old.board.connections }
         requires stands { IsNone (connection_at desk.old.board k).cause }
+        ensures stops { OnErr result (StopsReading self.old.routes k at until (sessions_of desk.old self.old.unkept.items) desk.new) }
         ensures reads { IfOk result (λ got. Reads got self.old.routes k self.new.buffer.items at until (sessions_of desk.old self.old.unkept.items) (sessions_of desk.new self.new.unkept.items)) }
         ensures within { IfOk result (λ got. WireGotWithin MOST_READ got) }
         ensures content { IfOk result (λ got. WireGivesFrom (W.link wire.old (connection_at desk.old.board k).number).left got self.new.buffer.items (W.link wire.new (connection_at desk.old.board k).number).left) }
@@ -85,6 +88,7 @@ impl WireDesk {
         requires stands { IsNone (connection_at desk.old.board k).cause }
         requires within { WireGotWithin MOST_READ got }
         requires roomy { MOST_READ ≤ room (connection_at desk.old.board k) }
+        ensures stops { OnErr result (StopsReading self.old.routes k at until (sessions_of desk.old self.old.unkept.items) desk.new) }
         ensures reads { OnOk result (ReadsAs got self.old.routes k self.old.buffer.items at until (sessions_of desk.old self.old.unkept.items) (sessions_of desk.new self.new.unkept.items)) }
         ensures set_up { OnOk result (IsSetUp leases.now desk.new self.new) }
         ensures progresses { OnOk result (Progresses k desk.old.board desk.new.board) }
@@ -120,6 +124,7 @@ impl WireDesk {
         requires stands { IsNone (connection_at desk.old.board k).cause }
         requires within { n ≤ MOST_READ }
         requires roomy { MOST_READ ≤ room (connection_at desk.old.board k) }
+        ensures stops { OnErr result (NothingIsTold desk.old.board desk.new.board ⊎ StopsBehindBytes self.old.routes k at until (sessions_of desk.old self.old.unkept.items) desk.new) }
         ensures takes { OnOk result (TakesBytes self.old.routes k (take n self.old.buffer.items) at until (sessions_of desk.old self.old.unkept.items) (sessions_of desk.new self.new.unkept.items)) }
         ensures set_up { OnOk result (IsSetUp leases.now desk.new self.new) }
         ensures progresses { OnOk result (Progresses k desk.old.board desk.new.board) }
@@ -145,6 +150,7 @@ impl WireDesk {
     ) -> Result<(), NoMemory>
         requires set_up { IsSetUp leases.now desk.old self.old }
         requires connection { k < length desk.old.board.connections }
+        ensures nothing { OnErr result (NothingIsTold desk.old.board desk.new.board) }
         ensures leaves { OnOk result (LeavesIfTardy k at (sessions_of desk.old self.old.unkept.items) (sessions_of desk.new self.new.unkept.items)) }
         ensures set_up { OnOk result (IsSetUp leases.now desk.new self.new) }
         ensures progresses { OnOk result (Progresses k desk.old.board desk.new.board) }
@@ -169,6 +175,7 @@ pub(crate) fn part(desk: &mut LeaseDesk, k: usize, cause: Cause) -> Result<(), N
     requires steady { IsSteady desk.old.board desk.old.seat }
     requires connection { k < length desk.old.board.connections }
     requires stands { IsNone (connection_at desk.old.board k).cause }
+    ensures nothing { OnErr result (NothingIsTold desk.old.board desk.new.board) }
     ensures parts { OnOk result (Happens (parting (connection_at desk.old.board k).session k cause) desk.old.board desk.new.board) }
     ensures ended { OnOk result (IsSome (connection_at desk.new.board k).cause) }
     ensures steady { OnOk result (IsSteady desk.new.board desk.new.seat) }
@@ -187,6 +194,7 @@ fn take_in(desk: &mut LeaseDesk, k: usize, bytes: &[u8]) -> Result<(), NoMemory>
     requires connection { k < length desk.old.board.connections }
     requires stands { IsNone (connection_at desk.old.board k).cause }
     requires room { length bytes.now ≤ room (connection_at desk.old.board k) }
+    ensures nothing { OnErr result (NothingIsTold desk.old.board desk.new.board) }
     ensures takes { OnOk result (Happens (takes k bytes.now) desk.old.board desk.new.board) }
     ensures steady { IsSteady desk.new.board desk.new.seat }
     ensures progresses { OnOk result (Progresses k desk.old.board desk.new.board) }
@@ -198,6 +206,7 @@ fn take_in(desk: &mut LeaseDesk, k: usize, bytes: &[u8]) -> Result<(), NoMemory>
     boards_stay_ready();
     boards_stay_in_step();
     boards_go_on();
+    stops_are_told();
     desk.board.take_in(k, bytes)?;
     Ok(())
 }

@@ -1,6 +1,6 @@
 //! A connection is written to.
 
-ghost use Rattle.std.specs.Prelude.{◌≡◌, ◌+◌, ◌<◌, ◌≤◌, length, take, false, IfOk, IsSome, None, OnOk, true};
+ghost use Rattle.std.specs.Prelude.{◌≡◌, ◌+◌, ◌<◌, ◌≤◌, length, take, false, IfOk, IsSome, None, OnOk, true, OnErr};
 ghost use Rattle.connection_core.specs.Outgoing.{waiting_text};
 ghost use Rattle.connection_core.specs.declared.limits.TheConstants.{MOST_WRITTEN};
 ghost use Rattle.gate_io.specs.Wire.{IsOpen, LinkGoesOn, OthersStay};
@@ -9,11 +9,13 @@ ghost use Rattle.lease_desk.specs.Desk.{AllAgree};
 ghost use Rattle.session_desk.specs.Steps.{IsSteady};
 ghost use Rattle.switchboard.specs.Board.{connection_at};
 ghost use Rattle.switchboard.specs.Going.{IsWrittenAsBefore};
+ghost use Rattle.switchboard.specs.Stops.{NothingIsTold};
 ghost use Rattle.wire_desk.specs.Dials.{IsDialling, WaitBehindEnded};
 ghost use Rattle.wire_desk.specs.Lines.{IsOpenPlace, IsSetUp, IsWired, TookWhatIsWritten, standing, stands_at};
 ghost use Rattle.wire_desk.specs.Places.{AreInOrder, open_places};
 ghost use Rattle.wire_desk.specs.Planned.{OnceAsPlanned, TurnsAsPlanned};
 ghost use Rattle.wire_desk.specs.Steps.{AreApart, AreOnWire, AreOpenFrom, GoesOnWriting, HasStopped, PartsIfNeeded, PreparesTo, Progresses, ProgressesUnread, ProgressesWriting, Writes, WritesInTurn, WritesOnce, WritesSome, cause_behind, sessions_of, written_so_far};
+ghost use Rattle.wire_desk.specs.Stops.{StopsWriting};
 
 use crate::desk::WireDesk;
 use crate::dialling::{Dialler, dialling_goes_on};
@@ -29,7 +31,7 @@ use session_core::Cause;
 use session_desk::laws::sessions_proceed;
 use std::alloc::Global;
 use switchboard::Switchboard;
-use switchboard::laws::{boards_go_on, boards_stay_ready, ready_boards_allow};
+use switchboard::laws::{boards_go_on, boards_stay_ready, ready_boards_allow, stops_are_told};
 
 impl WireDesk {
     /// Writes what waits on a connection that isn't closed, until the wire took all of it, or as much as a
@@ -46,6 +48,7 @@ impl WireDesk {
         requires set_up { IsSetUp leases.now desk.old self.now }
         requires on_wire { AreOnWire desk.old.board (W.door wire.old) (W.link wire.old) }
         requires open_place { IsOpenPlace desk.old.board (W.link wire.old) k }
+        ensures nothing { OnErr result (NothingIsTold desk.old.board desk.new.board) }
         ensures writes { IfOk result (λ written. Writes written k (W.link wire.old (connection_at desk.old.board k).number) (W.link wire.new (connection_at desk.old.board k).number)
             (sessions_of desk.old self.now.unkept.items) (sessions_of desk.new self.now.unkept.items)) }
         ensures goes_on { LinkGoesOn (W.link wire.old (connection_at desk.old.board k).number) (W.link wire.new (connection_at desk.old.board k).number) }
@@ -62,6 +65,7 @@ impl WireDesk {
         boards_go_on();
         sessions_proceed();
         lines_progress();
+        stops_are_told();
         prepare(alloc, desk, k)?;
         let written = write_all(desk, wire, k);
         end_behind(desk, k, written.stop)?;
@@ -87,6 +91,7 @@ impl WireDesk {
         requires apart { AreApart (open_places self.old) }
         requires few { length (open_places self.old) ≤ MOST_CONNECTIONS + MOST_DIALLED }
         requires dialling { IsDialling desk.old.board (W.door wire.old) dialler.old }
+        ensures stops { OnErr result (StopsWriting (open_places self.old) (written_so_far desk.old self.old.unkept.items (W.link wire.old) 0) desk.new) }
         ensures writes { IfOk result (λ bytes. WritesInTurn (open_places self.old) (length (open_places self.old))
             (written_so_far desk.old self.old.unkept.items (W.link wire.old) 0) (written_so_far desk.new self.old.unkept.items (W.link wire.new) bytes)) }
         ensures door { W.door wire.new ≡ W.door wire.old }
@@ -125,6 +130,7 @@ impl WireDesk {
         requires open_places { AreOpenFrom 0 desk.old.board (W.link wire.old) (open_places self.now) }
         requires apart { AreApart (open_places self.now) }
         requires few { length (open_places self.now) ≤ MOST_CONNECTIONS + MOST_DIALLED }
+        ensures stops { OnErr result (StopsWriting (open_places self.now) (written_so_far desk.old self.now.unkept.items (W.link wire.old) 0) desk.new) }
         ensures writes { IfOk result (λ bytes. WritesInTurn (open_places self.now) (length (open_places self.now))
             (written_so_far desk.old self.now.unkept.items (W.link wire.old) 0) (written_so_far desk.new self.now.unkept.items (W.link wire.new) bytes)) }
         ensures door { W.door wire.new ≡ W.door wire.old }
@@ -268,6 +274,7 @@ fn write_once<W: Wire>(desk: &mut LeaseDesk, wire: &mut W, k: usize, limit: usiz
 fn end_behind(desk: &mut LeaseDesk, k: usize, stop: Stop) -> Result<(), NoMemory>
     requires steady { IsSteady desk.old.board desk.old.seat }
     requires connection { k < length desk.old.board.connections }
+    ensures nothing { OnErr result (NothingIsTold desk.old.board desk.new.board) }
     ensures ends { OnOk result (PartsIfNeeded (cause_behind stop (connection_at desk.old.board k)) k desk.old.board desk.new.board) }
     ensures steady { OnOk result (IsSteady desk.new.board desk.new.seat) }
     ensures progresses { OnOk result (Progresses k desk.old.board desk.new.board) }

@@ -1,6 +1,7 @@
 use Rattle.std.proofs.Common.{None, Some, refl, sym, subst, ◌∙◌}
 use Rattle.lease_desk.specs.Desk.{IsInStep}
 use Rattle.switchboard.specs.Happenings.{Happens, binds, binds_and_ends}
+use Rattle.session_desk.proofs.Stopping.{on_err}
 use Rattle.session_desk.proofs.greeting.take_logon.Goals as goal
 
 pub returns-in-None-clause-steady : goal.returns-in-None-clause-steady
@@ -43,3 +44,8 @@ returns-in_ok-leave-in-Some-clause-proceeds c =
 
 pub returns-in_ok-leave-in-Some-clause-agree : goal.returns-in_ok-leave-in-Some-clause-agree
 returns-in_ok-leave-in-Some-clause-agree c = (returns-in_ok-leave-in-Some-clause-steady c).in_step.agree
+
+pub returns-in_err-leave-in-Some-clause-stops : goal.returns-in_err-leave-in-Some-clause-stops
+returns-in_err-leave-in-Some-clause-stops c =
+    on_err c.from_residual-in_err-leave-in-Some.result
+    (c.stops_are_told.ensures.binds c.args.s c.args.k c.args.body.items c.args.at c.args.desk.now.board c.open.new.desk.board c.leave.new.desk.board c.in_ok-end.ensures.binds c.in_err-leave-in-Some.ensures.nothing)

@@ -1,6 +1,8 @@
-use Rattle.std.proofs.Common.{◌≡◌, ◌<◌, Some, refl, subst}
+use Rattle.std.proofs.Common.{◌≡◌, ◌<◌, ℕ, Option, None, Some, refl, sym, subst}
 use Rattle.switchboard.specs.Board.{connection_at}
+use Rattle.wire_desk.specs.Stops.{StopsInBody}
 use Rattle.wire_desk.proofs.OneByOne.{no_cause}
+use Rattle.wire_desk.proofs.Untold.{on_err}
 use Rattle.wire_desk.proofs.desk.WireDesk.handle.Goals as goal
 
 pub hear-requires-clause-session : goal.hear-requires-clause-session
@@ -26,3 +28,9 @@ pub returns-in_ok-greet-in-None-clause-set_up : goal.returns-in_ok-greet-in-None
 returns-in_ok-greet-in-None-clause-set_up c =
     let told = c.in_ok-greet-in-None.ensures in
     c.lines_progress.ensures.set_up c.args.leases.now c.args.desk.now c.greet.new.desk c.args.self.now _ told.proceeds.goes_on c.greet.ensures.table refl refl told.noted told.steady c.requires.set_up
+
+pub returns-in_err-greet-in-None-clause-stops : goal.returns-in_err-greet-in-None-clause-stops
+returns-in_err-greet-in-None-clause-stops c =
+    let unnamed : (connection_at c.args.desk.now.board c.args.k).session ≡ None = (cc) in
+    on_err c.from_residual-in_err-greet-in-None.result
+    (subst (λ (session : Option ℕ). StopsInBody session c.args.k c.args.body.items c.args.at c.args.until c.args.desk.now c.greet.new.desk) (sym unnamed) c.in_err-greet-in-None.ensures.stops)

@@ -1,4 +1,4 @@
-use Rattle.std.proofs.Common.{◌≡◌, ◌<◌, ℕ, List, length, false, sym, ap, subst, ◌∙◌, arith}
+use Rattle.std.proofs.Common.{◌≡◌, ◌<◌, ℕ, List, inr, length, false, sym, ap, subst, ◌∙◌, arith}
 use Rattle.connection_core.specs.Connection.{ConnectionState}
 use Rattle.gate_io.specs.Wire.{Door, OthersStay}
 use Rattle.switchboard.specs.Board.{connection_at}
@@ -7,6 +7,7 @@ use Rattle.wire_desk.specs.Places.{open_places}
 use Rattle.wire_desk.specs.Steps.{ReadsAs, sessions_of}
 use Rattle.wire_desk.specs.declared.desk.WireDesk.{WireDesk}
 use Rattle.wire_desk.proofs.Progress.{stood}
+use Rattle.wire_desk.proofs.Untold.{on_err}
 use Rattle.wire_desk.proofs.desk.WireDesk.read.Goals as goal
 
 pub returns-clause-reads : goal.returns-clause-reads
@@ -48,3 +49,12 @@ returns-clause-wired g c =
     let long : length (connection_at new k).held ≡ length (connection_at middle k).held = ap (λ (xs : List ℕ). length xs) held in
     omega arith)
     c.requires.wired))
+
+pub returns-in_err-leave_if_tardy-clause-stops : goal.returns-in_err-leave_if_tardy-clause-stops
+returns-in_err-leave_if_tardy-clause-stops g c = on_err c.from_residual-in_err-leave_if_tardy.result (inr (inr (record {
+  got = c.read-got.result;
+  buffer = _;
+  between = sessions_of c.follow_read.new.desk c.follow_read.new.self.unkept.items;
+  reads = c.in_ok-follow_read.ensures.reads;
+  stops = c.in_err-leave_if_tardy.ensures.nothing;
+})))

@@ -1,6 +1,7 @@
-use Rattle.std.proofs.Common.{ℕ, List, refl, ap, subst, take}
+use Rattle.std.proofs.Common.{ℕ, List, inr, refl, ap, subst, take}
 use Rattle.lease_words.specs.Views.{EngineView}
 use Rattle.switchboard.specs.Happenings.{Happens, takes}
+use Rattle.wire_desk.proofs.Untold.{on_err}
 use Rattle.wire_desk.proofs.desk.WireDesk.take_bytes.Goals as goal
 
 pub handle_all-requires-clause-set_up : goal.handle_all-requires-clause-set_up
@@ -17,3 +18,12 @@ returns-clause-takes c = record {
   seat = c.take_in.ensures.seat;
   handles = c.in_ok-handle_all.ensures.handles;
 }
+
+pub returns-in_err-handle_all-clause-stops : goal.returns-in_err-handle_all-clause-stops
+returns-in_err-handle_all-clause-stops c = on_err c.from_residual-in_err-handle_all.result (inr (record {
+  bytes = _;
+  taken = c.take_in.new.desk;
+  takes = c.in_ok-take_in.ensures.takes;
+  seat = c.take_in.ensures.seat;
+  stops = c.in_err-handle_all.ensures.stops;
+}))

@@ -11,6 +11,7 @@ use Rattle.wire_desk.specs.Lines.{TookWhatIsWritten}
 use Rattle.wire_desk.specs.Planned.{IsPlannedTurn, TurnsAsPlanned}
 use Rattle.wire_desk.specs.Steps.{GoesOnWriting, HasStopped, cause_behind}
 use Rattle.wire_desk.proofs.OnWire.{number_stays, on_wire, progresses, took_since}
+use Rattle.wire_desk.proofs.Untold.{nothing_is_told, on_err}
 use Rattle.wire_desk.proofs.Writes.{GoesOnAtWire, goes_further, line_here, stopped_further}
 use Rattle.wire_desk.proofs.desk.WireDesk.write.Given as given
 use Rattle.wire_desk.proofs.desk.WireDesk.write.Goals as goal
@@ -122,3 +123,13 @@ returns-clause-on_wire g c =
     (c.lines_progress.ensures.itself c.args.desk.now.board c.args.k)
     (g.W.Wire.door c.args.wire.now) (g.W.Wire.door c.write_all-written.new.wire) (g.W.Wire.door c.close_if_ended.new.wire) (g.W.Wire.link c.args.wire.now) (g.W.Wire.link c.write_all-written.new.wire) (g.W.Wire.link c.close_if_ended.new.wire)
     (λ j small same. ready.numbers j c.args.k small c.requires.open_place.within same) (wrote g c) c.close_if_ended.ensures.door close.others close.written close.stands c.requires.on_wire
+
+pub returns-in_err-prepare-clause-nothing : goal.returns-in_err-prepare-clause-nothing
+returns-in_err-prepare-clause-nothing g c = on_err c.from_residual.result (nothing_is_told c.args.k c.args.desk.now.board c.prepare.new.desk.board c.prepare.ensures.goes_on)
+
+pub returns-in_err-end_behind-clause-nothing : goal.returns-in_err-end_behind-clause-nothing
+returns-in_err-end_behind-clause-nothing g c =
+    let old = c.args.desk.now.board in
+    let wrote = c.write_all-written.new.desk.board in
+    let goes = goes_further c.args.k old c.prepare.new.desk.board wrote c.requires.open_place.within c.prepare.ensures.goes_on c.write_all-written.ensures.changes in
+    on_err c.from_residual-in_err-end_behind.result (c.stops_are_told.ensures.further old wrote c.end_behind.new.desk.board (nothing_is_told c.args.k old wrote goes) c.in_err-end_behind.ensures.nothing)

@@ -3,6 +3,7 @@ use Rattle.wire_desk.specs.Lines.{IsOpenPlace}
 use Rattle.wire_desk.specs.Places.{open_places}
 use Rattle.wire_desk.specs.Steps.{WritesAt, written_so_far}
 use Rattle.wire_desk.proofs.Turn.{open_further, unread_further, unread_itself}
+use Rattle.wire_desk.proofs.Untold.{on_err}
 use Rattle.wire_desk.proofs.desk.WireDesk.write_each.Goals as goal
 
 pub loop-i-init : goal.loop-i-init
@@ -60,3 +61,12 @@ loop-i-preserved g c =
           (λ j small same. was.set_up.steady.run.ready.numbers j c.open_place-k.result small there same) now.progresses now.others was.open_from;
       progresses = unread_further c.boards_go_on.ensures.further c.open_place-k.result c.args.desk.now.board old new was.progresses now.progresses;
     }
+
+pub returns-in_err-written-clause-stops : goal.returns-in_err-written-clause-stops
+returns-in_err-written-clause-stops g c = on_err c.from_residual.result (record {
+  count = c.loop-i.i;
+  few = omega arith;
+  between = written_so_far c.loop-i.desk c.args.self.now.unkept.items (g.W.Wire.link c.loop-i.wire) c.loop-i.bytes;
+  writes = c.loop-i.invariant.writes;
+  stops = c.in_err-written.ensures.nothing;
+})

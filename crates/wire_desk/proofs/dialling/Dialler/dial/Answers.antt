@@ -1,10 +1,12 @@
-use Rattle.std.proofs.Common.{◌≡◌, ◌+◌, ◌++◌, [], ◌∷◌, ℕ, List, length, refl, sym, ap, subst, ◌∙◌, arith}
+use Rattle.std.proofs.Common.{◌≡◌, ◌+◌, ◌++◌, [], ◌∷◌, inr, ℕ, List, length, refl, sym, ap, subst, ◌∙◌, arith}
 use Rattle.connection_core.specs.Outgoing.{no_outgoing}
 use Rattle.session_book.specs.Book.{with_outbox}
 use Rattle.switchboard.specs.Board.{book_at}
 use Rattle.wire_desk.specs.Dials.{IsDialDue}
 use Rattle.wire_desk.specs.Lines.{IsWired}
+use Rattle.session_desk.specs.Stops.{StopsDialling}
 use Rattle.wire_desk.proofs.Dialled.{dialled_wired, gathering_keeps, one_more_dialled}
+use Rattle.wire_desk.proofs.Untold.{on_err}
 use Rattle.wire_desk.proofs.dialling.Dialler.dial.Goals as goal
 
 pub returns-in_ok-k-in-New-clause-set_up : goal.returns-in_ok-k-in-New-clause-set_up
@@ -57,3 +59,12 @@ returns-in_ok-k-in-New-clause-dialling g c =
       few = (let left = due.left in omega arith);
       most = was.most;
     }
+
+pub returns-in_ok-k-in-New-clause-dials : goal.returns-in_ok-k-in-New-clause-dials
+returns-in_ok-k-in-New-clause-dials g c = (c.is_due.ensures.0 (cc (c.if-not-is_due.false)), (c.in_ok-k-in-New.ensures.dials, refl))
+
+-- the wire gave the next number
+pub returns-in_err-k-in-New-clause-stops : goal.returns-in_err-k-in-New-clause-stops
+returns-in_err-k-in-New-clause-stops g c =
+    on_err c.from_residual-in_err-k-in-New.result
+    (inr (subst (λ number. StopsDialling c.args.s number c.args.at c.args.until c.args.desk.now c.dial.new.desk) c.in-New.ensures.dials.0 c.in_err-k-in-New.ensures.stops))
