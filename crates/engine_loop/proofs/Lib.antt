@@ -2,3 +2,4 @@ pub mod Quiet
 pub mod Coming
 pub mod Outset
 pub mod Kept
+pub mod Stopped

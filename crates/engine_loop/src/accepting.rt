@@ -1,6 +1,7 @@
 //! One connection is accepted.
 
-ghost use Rattle.std.specs.Prelude.{◌≡◌, ◌<◌, IfOk, OnOk};
+ghost use Rattle.std.specs.Prelude.{◌≡◌, ◌<◌, IfOk, OnOk, OnErr};
+ghost use Rattle.engine_loop.specs.Stops.{TellsNothing};
 ghost use Rattle.engine_end.specs.Room.{HasRoomFor};
 ghost use Rattle.engine_loop.specs.Engines.{IsAtWork, IsOnline};
 ghost use Rattle.engine_loop.specs.Turns.{AcceptsNext, AsksForConnection, at_wire};
@@ -27,6 +28,7 @@ impl Engine {
     ) -> Result<Accepted, NoMemory>
         requires work { IsAtWork shared.now self.old }
         requires online { IsOnline self.old (W.door wire.old) (W.link wire.old) }
+        ensures nothing { OnErr result (TellsNothing self.old self.new) }
         ensures accepts { IfOk result (λ answer. AcceptsNext answer (at_wire self.old (W.door wire.old) (W.link wire.old)) (at_wire self.new (W.door wire.new) (W.link wire.new))) }
         ensures work { OnOk result (IsAtWork shared.now self.new) }
         ensures failed { self.new.failed ≡ self.old.failed }
@@ -50,6 +52,7 @@ impl Engine {
         requires work { IsAtWork shared.now self.old }
         requires online { IsOnline self.old (W.door wire.old) (W.link wire.old) }
         requires due { self.old.accepted < self.old.connections }
+        ensures nothing { OnErr result (TellsNothing self.old self.new) }
         ensures accepts { IfOk result (λ answer. AsksForConnection answer (at_wire self.old (W.door wire.old) (W.link wire.old)) (at_wire self.new (W.door wire.new) (W.link wire.new))) }
         ensures answer { IfOk result (λ answer. Accepts (W.door wire.old) (W.door wire.new) (W.link wire.new) answer) }
         ensures work { OnOk result (IsAtWork shared.now self.new) }

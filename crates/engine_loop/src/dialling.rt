@@ -1,10 +1,13 @@
 //! Each session dials that is due.
 
-ghost use Rattle.std.specs.Prelude.{◌≡◌, ◌<◌, length, OnOk};
+ghost use Rattle.std.specs.Prelude.{◌≡◌, ◌<◌, length, OnOk, OnErr};
+ghost use Rattle.engine_loop.specs.Engines.{until_of};
+ghost use Rattle.engine_loop.specs.Stops.{StopsCallingAll};
 ghost use Rattle.engine_end.specs.Room.{HasRoomFor};
 ghost use Rattle.engine_loop.specs.Engines.{IsAtWork, IsOnline};
 ghost use Rattle.engine_loop.specs.Turns.{DialsSession, at_wire};
 ghost use Rattle.lease_desk.specs.Desk.{AllAgree, InTurn};
+ghost use Rattle.wire_desk.specs.Stops.{StopsCalling};
 
 use crate::engine::Engine;
 use crate::laws::engines_stay;
@@ -23,6 +26,7 @@ impl Engine {
     ) -> Result<(), NoMemory>
         requires work { IsAtWork shared.now self.old }
         requires online { IsOnline self.old (W.door wire.old) (W.link wire.old) }
+        ensures stops { OnErr result (StopsCallingAll (at_wire self.old (W.door wire.old) (W.link wire.old)) self.new) }
         ensures dials { OnOk result (InTurn DialsSession (length self.old.sessions.desk.board.sessions) (at_wire self.old (W.door wire.old) (W.link wire.old)) (at_wire self.new (W.door wire.new) (W.link wire.new))) }
         ensures work { OnOk result (IsAtWork shared.now self.new) }
         ensures failed { self.new.failed ≡ self.old.failed }
@@ -47,6 +51,7 @@ impl Engine {
         requires work { IsAtWork shared.now self.old }
         requires online { IsOnline self.old (W.door wire.old) (W.link wire.old) }
         requires session { s < length self.old.sessions.desk.board.sessions }
+        ensures stops { OnErr result (StopsCalling (W.door wire.old).dialled s self.old.moment (until_of self.old) self.old.sessions.desk self.new.sessions.desk) }
         ensures dials { OnOk result (DialsSession s (at_wire self.old (W.door wire.old) (W.link wire.old)) (at_wire self.new (W.door wire.new) (W.link wire.new))) }
         ensures work { OnOk result (IsAtWork shared.now self.new) }
         ensures failed { self.new.failed ≡ self.old.failed }

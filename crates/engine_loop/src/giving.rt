@@ -1,12 +1,16 @@
 //! The second half of a turn, and a whole one.
 
 ghost use Rattle.std.specs.Prelude.{◌≡◌, [], ◌∷◌, ◌≤◌, IfOk, IsErr, OnErr, OnOk, length, true, false};
+ghost use Rattle.engine_loop.specs.Stops.{StopsGiving, StopsTurn};
 ghost use Rattle.engine_end.specs.Room.{HasRoomFor};
 ghost use Rattle.engine_loop.specs.Engines.{IsAtWork, IsEngine, IsOnline};
 ghost use Rattle.engine_loop.specs.Turns.{GivesAll, GivesTurn, MakesTurn, WritesAll, at_wire};
 ghost use Rattle.gate_io.specs.Clock.{TakesReadings};
 ghost use Rattle.gate_io.specs.Counts.{HasRisen};
 ghost use Rattle.lease_desk.specs.Desk.{AllAgree};
+ghost use Rattle.wire_desk.specs.Places.{open_places};
+ghost use Rattle.wire_desk.specs.Steps.{written_so_far};
+ghost use Rattle.wire_desk.specs.Stops.{StopsWriting};
 
 use crate::engine::Engine;
 use crate::laws::engines_stay;
@@ -34,6 +38,8 @@ impl Engine {
         ensures engine { IsEngine shared.now self.new (W.door wire.new) (W.link wire.new) }
         ensures goes_on { OnOk result (self.new.failed ≡ false) }
         ensures failed { OnErr result (self.new.failed ≡ true) }
+        // Without memory the steps before one are made, and of that a beginning.
+        ensures stops { self.old.failed ≡ false → OnErr result (StopsTurn (C.last clock.new) (at_wire self.old (W.door wire.old) (W.link wire.old)) self.new) }
         // An engine for which memory was wanting does nothing.
         ensures stands_still { self.old.failed ≡ true → IsErr result }
         ensures engine_stays { self.old.failed ≡ true → self.new ≡ self.old }
@@ -61,6 +67,8 @@ impl Engine {
         ensures engine { IsEngine shared.now self.new (W.door wire.new) (W.link wire.new) }
         ensures goes_on { OnOk result (self.new.failed ≡ false) }
         ensures failed { OnErr result (self.new.failed ≡ true) }
+        // Without memory so many connections are written to.
+        ensures stops { self.old.failed ≡ false → OnErr result (StopsGiving (at_wire self.old (W.door wire.old) (W.link wire.old)) self.new) }
         // An engine for which memory was wanting does nothing.
         ensures stands_still { self.old.failed ≡ true → IsErr result }
         ensures engine_stays { self.old.failed ≡ true → self.new ≡ self.old }
@@ -94,6 +102,7 @@ impl Engine {
         requires work { IsAtWork shared.now self.old }
         requires online { IsOnline self.old (W.door wire.old) (W.link wire.old) }
         requires room { HasRoomFor self.old.sessions.desk.board self.old.spare }
+        ensures stops { OnErr result (StopsGiving (at_wire self.old (W.door wire.old) (W.link wire.old)) self.new) }
         ensures gives { IfOk result (λ bytes. GivesAll (W.link wire.old) (W.link wire.new) self.old self.new bytes) }
         ensures door { W.door wire.new ≡ W.door wire.old }
         ensures work { OnOk result (IsAtWork shared.now self.new) }
@@ -117,6 +126,7 @@ impl Engine {
         requires work { IsAtWork shared.now self.old }
         requires online { IsOnline self.old (W.door wire.old) (W.link wire.old) }
         requires room { HasRoomFor self.old.sessions.desk.board self.old.spare }
+        ensures stops { OnErr result (StopsWriting (open_places self.old.lines) (written_so_far self.old.sessions.desk self.old.lines.unkept.items (W.link wire.old) 0) self.new.sessions.desk) }
         ensures writes { IfOk result (λ bytes. WritesAll (W.link wire.old) (W.link wire.new) self.old self.new bytes) }
         ensures door { W.door wire.new ≡ W.door wire.old }
         ensures work { OnOk result (IsAtWork shared.now self.new) }

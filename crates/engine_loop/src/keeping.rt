@@ -1,6 +1,7 @@
 //! The second half of a turn, once all that was found in the first is on a disk.
 
 ghost use Rattle.std.specs.Prelude.{◌≡◌, [], ℕ, List, IfOk, IsErr, OnErr, OnOk, true, false};
+ghost use Rattle.engine_loop.specs.Stops.{StopsGiving};
 ghost use Rattle.durable_journal.specs.Journal.{Keeps};
 ghost use Rattle.engine_loop.specs.Engines.{IsEngine};
 ghost use Rattle.engine_loop.specs.Kept.{HaveEntriesOf, HaveKeptTexts};
@@ -35,6 +36,7 @@ impl Engine {
         ensures engine { IsEngine shared.now self.new (W.door wire.new) (W.link wire.new) }
         ensures goes_on { OnOk result (self.new.failed ≡ false) }
         ensures failed { OnErr result (self.new.failed ≡ true) }
+        ensures stops { self.old.failed ≡ false → OnErr result (StopsGiving (at_wire self.old (W.door wire.old) (W.link wire.old)) self.new) }
         // Behind a run from the entries before: what is written is of the text that the kept entries tell.
         ensures kept { OnOk result ((before : ℕ → List Entry) (kept : List Record) → IsReady before self.old.sessions.desk.board → Keeps D.history journal.now kept
             → HaveKeptTexts before kept self.old.sessions.desk.board self.new.sessions.desk.board) }

@@ -1,11 +1,15 @@
 //! Each connection that stands is read.
 
-ghost use Rattle.std.specs.Prelude.{◌≡◌, ◌<◌, [], length, slice_index_or, IfOk, OnOk};
+ghost use Rattle.std.specs.Prelude.{◌≡◌, ◌<◌, [], length, slice_index_or, IfOk, OnOk, OnErr, ◌⊎◌};
+ghost use Rattle.engine_loop.specs.Engines.{until_of};
+ghost use Rattle.engine_loop.specs.Stops.{StopsReadingAll, TellsNothing};
 ghost use Rattle.engine_end.specs.Room.{HasRoomFor};
 ghost use Rattle.engine_loop.specs.Engines.{IsAtWork, IsOnline};
 ghost use Rattle.engine_loop.specs.Turns.{ReadsAll, ReadsIfStands, reading_of};
 ghost use Rattle.lease_desk.specs.Desk.{AllAgree};
 ghost use Rattle.wire_desk.specs.Places.{open_places};
+ghost use Rattle.wire_desk.specs.Steps.{sessions_of};
+ghost use Rattle.wire_desk.specs.Stops.{StopsReading};
 
 use crate::engine::Engine;
 use crate::laws::engines_stay;
@@ -24,6 +28,7 @@ impl Engine {
         requires work { IsAtWork shared.now self.old }
         requires online { IsOnline self.old (W.door wire.old) (W.link wire.old) }
         requires room { HasRoomFor self.old.sessions.desk.board self.old.spare }
+        ensures stops { OnErr result (StopsReadingAll self.old (W.link wire.old) self.new) }
         ensures reads { IfOk result (λ got. ReadsAll (open_places self.old.lines) (reading_of self.old (W.link wire.old) []) (reading_of self.new (W.link wire.new) got.items)) }
         ensures work { OnOk result (IsAtWork shared.now self.new) }
         ensures failed { self.new.failed ≡ self.old.failed }
@@ -54,6 +59,7 @@ impl Engine {
         requires online { IsOnline self.old (W.door wire.old) (W.link wire.old) }
         requires connection { k < length self.old.sessions.desk.board.connections }
         requires room { HasRoomFor self.old.sessions.desk.board self.old.spare }
+        ensures stops { OnErr result (TellsNothing self.old self.new ⊎ StopsReading self.old.lines.routes k self.old.moment (until_of self.old) (sessions_of self.old.sessions.desk self.old.lines.unkept.items) self.new.sessions.desk) }
         ensures reads { OnOk result (ReadsIfStands k (reading_of self.old (W.link wire.old) got.old.items) (reading_of self.new (W.link wire.new) got.new.items)) }
         ensures work { OnOk result (IsAtWork shared.now self.new) }
         ensures failed { self.new.failed ≡ self.old.failed }

@@ -1,6 +1,8 @@
 //! Each library is served.
 
-ghost use Rattle.std.specs.Prelude.{◌≡◌, ◌≤◌, ◌+◌, ℕ, [], length, IfOk, OnOk};
+ghost use Rattle.std.specs.Prelude.{◌≡◌, ◌≤◌, ◌+◌, ℕ, [], length, IfOk, OnOk, OnErr};
+ghost use Rattle.engine_loop.specs.Stops.{StopsServingAll};
+ghost use Rattle.library_desk.specs.Stops.{StopsServing};
 ghost use Rattle.engine_end.specs.Room.{HasRoomFor};
 ghost use Rattle.engine_loop.specs.Engines.{IsAtWork, IsOnline, until_of};
 ghost use Rattle.engine_loop.specs.Turns.{ServesOne, serving_of};
@@ -26,6 +28,7 @@ impl Engine {
     ) -> Result<Vec<LibTurn>, NoMemory>
         requires work { IsAtWork shared.now self.old }
         requires room { HasRoomFor self.old.sessions.desk.board self.old.spare }
+        ensures stops { OnErr result (StopsServingAll self.old self.new) }
         ensures serves { IfOk result (λ turns. InTurn (λ i. ServesOne (i + 1)) (length self.old.sessions.ends.items) (serving_of self.old []) (serving_of self.new turns.items)) }
         ensures work { OnOk result (IsAtWork shared.now self.new) }
         ensures failed { self.new.failed ≡ self.old.failed }
@@ -52,6 +55,7 @@ impl Engine {
         requires work { IsAtWork shared.now self.old }
         requires library { (1 ≤ library) × (library ≤ length self.old.sessions.ends.items) }
         requires room { HasRoomFor self.old.sessions.desk.board self.old.spare }
+        ensures stops { OnErr result (StopsServing library self.old.moment (until_of self.old) self.old.sessions self.new.sessions) }
         ensures serves { IfOk result (λ turn. Serves library self.old.moment (until_of self.old) self.old.sessions self.new.sessions turn) }
         ensures rest { self.new ≡ record self.old { sessions = self.new.sessions } }
         ensures work { OnOk result (IsAtWork shared.now self.new) }

@@ -1,6 +1,7 @@
 //! The first half of a turn.
 
 ghost use Rattle.std.specs.Prelude.{◌≡◌, [], ◌∷◌, IfOk, IsErr, OnErr, OnOk, true, false};
+ghost use Rattle.engine_loop.specs.Stops.{StopsTaking};
 ghost use Rattle.engine_end.specs.Room.{HasRoomFor};
 ghost use Rattle.engine_loop.specs.Engines.{IsAtWork, IsEngine, IsOnline};
 ghost use Rattle.engine_loop.specs.Turns.{TakesTurn, at_wire, with_moment};
@@ -37,6 +38,8 @@ impl Engine {
         ensures engine { IsEngine shared.now self.new (W.door wire.new) (W.link wire.new) }
         ensures goes_on { OnOk result (self.new.failed ≡ false) }
         ensures failed { OnErr result (self.new.failed ≡ true) }
+        // Without memory the steps before one are made, and of that a beginning.
+        ensures stops { self.old.failed ≡ false → OnErr result (StopsTaking (C.last clock.new) (at_wire self.old (W.door wire.old) (W.link wire.old)) self.new) }
         // An engine for which memory was wanting does nothing.
         ensures stands_still { self.old.failed ≡ true → IsErr result }
         ensures engine_stays { self.old.failed ≡ true → self.new ≡ self.old }
@@ -67,6 +70,7 @@ impl Engine {
     ) -> Result<Taken, NoMemory>
         requires work { IsAtWork shared.now self.old }
         requires online { IsOnline self.old (W.door wire.old) (W.link wire.old) }
+        ensures stops { OnErr result (StopsTaking reading (at_wire self.old (W.door wire.old) (W.link wire.old)) self.new) }
         ensures takes { IfOk result (λ taken. TakesTurn reading (at_wire self.old (W.door wire.old) (W.link wire.old)) (at_wire self.new (W.door wire.new) (W.link wire.new)) taken) }
         ensures work { OnOk result (IsAtWork shared.now self.new) }
         ensures online { OnOk result (IsOnline self.new (W.door wire.new) (W.link wire.new)) }

@@ -1,6 +1,9 @@
 //! Each session hears the clock.
 
-ghost use Rattle.std.specs.Prelude.{◌≡◌, ◌<◌, ℕ, length, OnOk};
+ghost use Rattle.std.specs.Prelude.{◌≡◌, ◌<◌, ℕ, length, OnOk, OnErr};
+ghost use Rattle.engine_loop.specs.Engines.{until_of};
+ghost use Rattle.engine_loop.specs.Stops.{StopsTickingAll};
+ghost use Rattle.session_desk.specs.Stops.{StopsTicking};
 ghost use Rattle.engine_end.specs.Room.{HasRoomFor};
 ghost use Rattle.engine_loop.specs.Engines.{IsAtWork, IsOnline};
 ghost use Rattle.engine_loop.specs.Turns.{TicksSession};
@@ -21,6 +24,7 @@ impl Engine {
     pub(crate) fn tick_all(&mut self, alloc: Global, shared: &Shared) -> Result<(), NoMemory>
         requires work { IsAtWork shared.now self.old }
         requires room { HasRoomFor self.old.sessions.desk.board self.old.spare }
+        ensures stops { OnErr result (StopsTickingAll self.old self.new) }
         ensures ticks { OnOk result (InTurn TicksSession (length self.old.sessions.desk.board.sessions) self.old self.new) }
         ensures work { OnOk result (IsAtWork shared.now self.new) }
         ensures failed { self.new.failed ≡ self.old.failed }
@@ -40,6 +44,7 @@ impl Engine {
         requires work { IsAtWork shared.now self.old }
         requires session { s < length self.old.sessions.desk.board.sessions }
         requires room { HasRoomFor self.old.sessions.desk.board self.old.spare }
+        ensures stops { OnErr result (StopsTicking s self.old.moment (until_of self.old) self.old.sessions.desk self.new.sessions.desk) }
         ensures ticks { OnOk result (TicksSession s self.old self.new) }
         ensures work { OnOk result (IsAtWork shared.now self.new) }
         ensures failed { self.new.failed ≡ self.old.failed }

@@ -1,5 +1,7 @@
 use Rattle.std.proofs.Common.{◌++◌, ℕ, List, length, refl, sym, ap, subst, ◌∙◌, arith}
 use Rattle.engine_loop.proofs.Coming.{accepted_stays, few_came, few_dialled, most_stays}
+use Rattle.wire_desk.specs.Stops.{StopsCalling}
+use Rattle.engine_loop.proofs.Stopped.{on_err}
 use Rattle.engine_loop.proofs.engine.Engine.dial_session.Goals as goal
 use Rattle.wire_desk.specs.Places.{AreRising}
 use Rattle.wire_desk.specs.Steps.{AreApart}
@@ -49,3 +51,8 @@ returns-in_err-dial-clause-room g c =
       for_sessions = (let most = was.spare.for_sessions in let count = c.dial.ensures.sessions_stay in omega arith);
       for_connections = (let came = was.came in let one = c.dial.ensures.one_comes in let most = was.spare.for_connections in let few = c.requires.work.few in let left = c.in_err-dial.ensures.err_due.left in omega arith);
     }
+
+pub returns-in_err-dial-clause-stops : goal.returns-in_err-dial-clause-stops
+returns-in_err-dial-clause-stops g c =
+    let e = c.args.self.now in
+    on_err c.from_residual.result (subst (λ until. StopsCalling (g.W.Wire.door c.args.wire.now).dialled c.args.s e.moment until e.sessions.desk c.dial.new.desk) c.until-until.ensures c.in_err-dial.ensures.stops)

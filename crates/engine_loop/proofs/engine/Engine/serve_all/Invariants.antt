@@ -1,4 +1,4 @@
-use Rattle.std.proofs.Common.{◌≡◌, ◌+◌, ℕ, [], length}
+use Rattle.std.proofs.Common.{◌≡◌, ◌+◌, ◌≤◌, ℕ, [], length, vec_len, vec_capacity}
 use Rattle.gate_io.specs.Wire.{Door, Link}
 use Rattle.lease_desk.specs.Desk.{InTurn}
 use Rattle.engine_end.specs.Room.{HasRoomFor}
@@ -14,4 +14,6 @@ invariant-loop-i l = record {
   libraries : length l.self.sessions.ends.items ≡ length l.initial.self.sessions.ends.items;
   room : HasRoomFor l.self.sessions.desk.board l.self.spare;
   failed : l.self.failed ≡ l.initial.self.failed;
+  counted : vec_len l.turns ≡ l.i;
+  spare : vec_len l.initial.self.sessions.ends ≤ vec_capacity l.turns;
 }

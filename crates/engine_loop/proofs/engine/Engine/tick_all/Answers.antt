@@ -1,4 +1,6 @@
 use Rattle.std.proofs.Common.{add-one, ◌∙◌}
+use Rattle.engine_loop.specs.Stops.{StopsTickingAll}
+use Rattle.engine_loop.proofs.Stopped.{on_err}
 use Rattle.engine_loop.proofs.engine.Engine.tick_all.Goals as goal
 
 pub loop-s-preserved : goal.loop-s-preserved
@@ -13,3 +15,13 @@ loop-s-preserved c =
       room = c.tick_session.ensures.room;
       failed = c.tick_session.ensures.failed ∙ was.failed;
     }
+
+pub returns-in_err-tick_session-clause-stops : goal.returns-in_err-tick_session-clause-stops
+returns-in_err-tick_session-clause-stops c =
+    let stops : StopsTickingAll c.args.self.now c.tick_session.new.self = record {
+      count = c.loop-s.s;
+      between = c.loop-s.self;
+      ticks = c.loop-s.invariant.turn;
+      stops = c.in_err-tick_session.ensures.stops;
+    } in
+    on_err c.from_residual.result stops

@@ -1,4 +1,6 @@
-use Rattle.std.proofs.Common.{refl}
+use Rattle.std.proofs.Common.{refl, subst}
+use Rattle.session_desk.specs.Stops.{StopsTicking}
+use Rattle.engine_loop.proofs.Stopped.{on_err}
 use Rattle.engine_loop.proofs.engine.Engine.tick_session.Goals as goal
 
 pub returns-clause-work : goal.returns-clause-work
@@ -18,3 +20,8 @@ returns-clause-online c = λ door links was.
     let told = c.in_ok-tick.ensures in
     c.engines_stay.ensures.still c.args.self.now _ door links told.proceeds.goes_on
     (c.none_comes.ensures.ticks c.args.s c.args.self.now.moment c.until-until.result c.args.self.now.sessions.desk c.tick.new.desk c.in_ok-tick.field-0 told.ticks) told.proceeds.bytes refl refl refl refl refl refl was
+
+pub returns-in_err-tick-clause-stops : goal.returns-in_err-tick-clause-stops
+returns-in_err-tick-clause-stops c =
+    let e = c.args.self.now in
+    on_err c.from_residual.result (subst (λ until. StopsTicking c.args.s e.moment until e.sessions.desk c.tick.new.desk) c.until-until.ensures c.in_err-tick.ensures.stops)
