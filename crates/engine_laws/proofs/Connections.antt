@@ -1,5 +1,6 @@
 -- What a session handled stays of connections that name it, each of them once.
-use Rattle.std.proofs.Common.{◌≡◌, ◌≢◌, inl, inr, ℕ, zero, suc, ◌<◌, List, [], ◌∷◌, ◌++◌, get_or, length, None, Some, refl, sym, ap, subst, ◌∙◌, arith}
+use Rattle.std.proofs.Common.{◌≡◌, ◌≢◌, ℕ, zero, suc, ◌<◌, List, [], ◌∷◌, ◌++◌, get_or, length, None, Some, refl, sym, ap, subst, ◌∙◌, arith}
+use Rattle.std.specs.Prelude.{IsNone}
 use Rattle.std.specs.List.{All}
 use Rattle.std.proofs.Math.Seq.{get_or-append_seam}
 use Rattle.std.proofs.lemmas.List.{length_push}
@@ -9,11 +10,11 @@ use Rattle.connection_core.specs.Connection.{ConnectionState, fresh_dial}
 use Rattle.lease_core.specs.declared.entry.Entry.{Entry}
 use Rattle.session_book.specs.Runs.{Handled, handled_of, with_body}
 use Rattle.engine_laws.specs.Account.{AreConnectionsOf, IsConnectionOf}
-use Rattle.engine_laws.proofs.Changed.{changed_here, changed_there}
-use Rattle.engine_laws.proofs.Standing.{none_is, same_or_other}
+use Rattle.engine_laws.proofs.Changed.{changed_keeps}
+use Rattle.engine_laws.proofs.Standing.{none_is}
 use Rattle.switchboard.specs.Board.{Board, connection_at, no_connection}
 use Rattle.switchboard.specs.Going.{GoesOnTo}
-use Rattle.switchboard.specs.Happenings.{BindsTo, Happening, Happens, binds, binds_and_ends, dials, receives}
+use Rattle.switchboard.specs.Happenings.{BindsTo, Happening, Happens, IsNewNumber, binds, binds_and_ends, dials, receives}
 use Rattle.switchboard.specs.Ready.{IsReady}
 use Rattle.switchboard.specs.Told.{History, changed_at, history_after}
 
@@ -59,7 +60,7 @@ as_many body [] = refl
 as_many body (of ∷ []) = refl
 as_many body (of ∷ (next ∷ handled)) = ap suc (as_many body (next ∷ handled))
 
-message_more : (s : ℕ) (body : List ℕ) (handled : List Handled) (board : Board) → AreConnectionsOf board s handled → AreConnectionsOf board s (with_body body handled)
+pub message_more : (s : ℕ) (body : List ℕ) (handled : List Handled) (board : Board) → AreConnectionsOf board s handled → AreConnectionsOf board s (with_body body handled)
 message_more s body handled board are =
     let count = as_many body handled in
     record {
@@ -70,10 +71,21 @@ message_more s body handled board are =
 -- of one session something is handled
 one_changes : (s : ℕ) (change : List Handled → List Handled) (all : ℕ → List Handled) (board : Board) → AreConnectionsOf board s (change (all s)) → ((j : ℕ) → AreConnectionsOf board j (all j))
     → (j : ℕ) → AreConnectionsOf board j (changed_at s change all j)
-one_changes s change all board here there j = elim (same_or_other j s) [
-  | inl e ↦ subst (λ n. AreConnectionsOf board n (changed_at s change all n)) (sym e) (subst (λ handled. AreConnectionsOf board s handled) (sym (changed_here s change all)) here)
-  | inr other ↦ subst (λ handled. AreConnectionsOf board j handled) (sym (changed_there s change all j other)) (there j)
-]
+one_changes s change all board here there = changed_keeps (AreConnectionsOf board) s change all here (λ j other. there j)
+
+-- a connection that names no session is none of those, nor is one that comes
+pub apart_unbound : (before : ℕ → List Entry) (s k : ℕ) (handled : List Handled) (board : Board) → IsReady before board → k < length board.connections → IsNone (connection_at board k).session
+    → AreConnectionsOf board s handled → All (λ of. of.connection ≢ (connection_at board k).number) handled
+apart_unbound before s k handled board ready within none are =
+    All-weaker (λ of. IsConnectionOf board s of.connection) (λ of. of.connection ≢ (connection_at board k).number)
+    (λ of is same.
+    let place = ready.numbers is.place k is.within within (is.number_is ∙ same) in
+    none_some s (sym (none_is _ none) ∙ ap (λ n. (connection_at board n).session) (sym place) ∙ is.names))
+    handled are.each
+
+pub apart_new : (s number : ℕ) (handled : List Handled) (board : Board) → IsNewNumber board number → AreConnectionsOf board s handled → All (λ of. of.connection ≢ number) handled
+apart_new s number handled board new are =
+    All-weaker (λ of. IsConnectionOf board s of.connection) (λ of. of.connection ≢ number) (λ of is same. new is.place is.within (is.number_is ∙ same)) handled are.each
 
 named_now : (s k : ℕ) (old new : Board) → k < length old.connections → GoesOnTo old new → (connection_at new k).number ≡ (connection_at old k).number → (connection_at new k).session ≡ Some s
     → IsConnectionOf new s (connection_at old k).number
@@ -85,12 +97,7 @@ bound_more : (before : ℕ → List Entry) (s k : ℕ) (body : List ℕ) (at : �
     → (j : ℕ) → AreConnectionsOf new j (changed_at s (λ handled. handled ++ handled_of (connection_at old k).number (body ∷ []) ∷ []) history.handled j)
 bound_more before s k body at history old between new binding ready is goes are =
     let number = (connection_at old k).number in
-    let other : All (λ of. of.connection ≢ number) (history.handled s) =
-    All-weaker (λ of. IsConnectionOf old s of.connection) (λ of. of.connection ≢ number)
-    (λ of was same.
-    let place = ready.numbers was.place k was.within binding.connection_within (was.number_is ∙ same) in
-    none_some s (sym (none_is _ binding.unbound) ∙ ap (λ n. (connection_at old n).session) (sym place) ∙ was.names))
-    (history.handled s) (are s).each in
+    let other = apart_unbound before s k (history.handled s) old ready binding.connection_within binding.unbound (are s) in
     one_changes s (λ handled. handled ++ handled_of number (body ∷ []) ∷ []) history.handled new
     (one_more s number (body ∷ []) (history.handled s) new is other (all_on s (history.handled s) old new goes (are s)))
     (λ j. all_on j (history.handled j) old new goes (are j))
@@ -101,8 +108,7 @@ connections_on before (dials s number at) history old new is goes ready are =
     let last = length old.connections in
     let c = fresh_dial number at s (connection_at new last).out in
     let found : connection_at new last ≡ c = ap (λ cs. get_or cs last no_connection) is.connection ∙ get_or-append_seam old.connections c [] no_connection in
-    let other : All (λ of. of.connection ≢ number) (history.handled s) =
-    All-weaker (λ of. IsConnectionOf old s of.connection) (λ of. of.connection ≢ number) (λ of was same. is.new_number was.place was.within (was.number_is ∙ same)) (history.handled s) (are s).each in
+    let other = apart_new s number (history.handled s) old is.new_number (are s) in
     let count : length new.connections ≡ length (old.connections ++ c ∷ []) = ap length is.connection in
     one_changes s (λ handled. handled ++ handled_of number [] ∷ []) history.handled new
     (one_more s number [] (history.handled s) new

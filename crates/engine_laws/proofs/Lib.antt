@@ -6,4 +6,6 @@ mod Libraries
 mod Lines
 mod Sessions
 mod Standing
+mod Stopped
+mod Stopping
 mod Turns

@@ -24,7 +24,7 @@ pub none_is : {T : Type 0} (o : Option T) → IsNone o → o ≡ None
 none_is None is = refl
 none_is (Some x) is = absurd (cc)
 
-some_none : {T : Type 0} (a : T) → Some a ≡ None → ⊥
+pub some_none : {T : Type 0} (a : T) → Some a ≡ None → ⊥
 some_none a e = (cc)
 
 -- it stands or names a session only where it did before

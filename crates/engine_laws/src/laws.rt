@@ -4,7 +4,9 @@ ghost use Rattle.std.specs.Prelude.{◌≡◌, ◌≢◌, ℕ, ◌<◌, ◌≤�
 ghost use Rattle.std.specs.List.{All};
 ghost use Rattle.engine_config.specs.declared.config.Config.{Config};
 ghost use Rattle.engine_laws.specs.Account.{IsAccountedFor, IsAside, KeepsAccount, Progress, StaysAccountedFor, all_done, cutting, handling, only};
+ghost use Rattle.engine_laws.specs.Stopped.{IsAccountedInPart, StopsAccountedFor};
 ghost use Rattle.engine_laws.specs.Turns.{EngineStaysAccountedFor, board_of};
+ghost use Rattle.engine_loop.specs.Stops.{StopsTurn};
 ghost use Rattle.engine_loop.specs.Turns.{AcceptsNext, AtWire, DialsSession, HandsOut, MakesTurn, NotesSession, PublishesSession, Reading, ReadsIfStands, ServesOne, Serving, TakesTurn, TicksSession, WritesAll};
 ghost use Rattle.engine_loop.specs.declared.engine.Engine.{Engine};
 ghost use Rattle.engine_loop.specs.declared.records.Taken.{Taken};
@@ -18,30 +20,37 @@ ghost use Rattle.gate_io.specs.declared.wires.Accepted.{Accepted};
 ghost use Rattle.gate_io.specs.declared.wires.WireGot.{WireGot};
 ghost use Rattle.lease_core.specs.declared.entry.Entry.{Entry};
 ghost use Rattle.lease_core.specs.declared.record.Record.{Record};
-ghost use Rattle.lease_desk.specs.Desk.{Gathers};
+ghost use Rattle.lease_desk.specs.Desk.{Gathers, TakesBackSome};
 ghost use Rattle.lease_desk.specs.declared.desk.LeaseDesk.{LeaseDesk};
 ghost use Rattle.library_desk.specs.Happening.{RunsFor};
 ghost use Rattle.library_desk.specs.Serving.{Serves};
+ghost use Rattle.library_desk.specs.Stops.{StopsServing};
 ghost use Rattle.library_desk.specs.declared.desk.LibraryDesk.{LibraryDesk};
 ghost use Rattle.library_desk.specs.declared.serving.LibTurn.{LibTurn};
 ghost use Rattle.session_book.specs.Records.{Pending};
 ghost use Rattle.session_core.specs.State.{State};
 ghost use Rattle.session_core.specs.declared.causes.Cause.{Cause};
 ghost use Rattle.session_desk.specs.Steps.{DialsTo, GreetsAs, Hears, Ticks, parting};
+ghost use Rattle.session_desk.specs.Stops.{StopsDialling, StopsGreeting, StopsHearing, StopsTicking};
 ghost use Rattle.session_desk.specs.declared.routes.Routes.{Routes};
 ghost use Rattle.switchboard.specs.Board.{Board, book_at, connection_at};
 ghost use Rattle.switchboard.specs.Brought.{HasHandled, good_bodies};
-ghost use Rattle.switchboard.specs.Happenings.{Happening, Happens, Reaches, accepts, binds, binds_and_ends, dials, ends_unbound, gives, next_pieces, receives, takes};
+ghost use Rattle.switchboard.specs.Happenings.{Happening, Happens, Reaches, accepts, binds, binds_and_ends, dials, ends_unbound, gives, next_pieces, receives, takes, ticks};
 ghost use Rattle.switchboard.specs.Ready.{IsFirst, IsReady, entries_of};
 ghost use Rattle.switchboard.specs.Sound.{bound_of};
+ghost use Rattle.switchboard.specs.Stops.{HaveSameSessions, NothingIsTold, StopsIn};
 ghost use Rattle.switchboard.specs.Told.{machines_of};
 ghost use Rattle.wire_desk.specs.Dials.{DialsAs};
 ghost use Rattle.wire_desk.specs.Steps.{AcceptsAs, HandlesAll, HandlesBody, HandlesNext, PartsIfNeeded, Reads, Sessions, Writes, WritesInTurn, WrittenSoFar};
+ghost use Rattle.wire_desk.specs.Stops.{StopsCalling, StopsReading, StopsWriting};
 ghost use Rattle.wire_desk.specs.declared.dialling.Dialler.{Dialler};
 ghost use Rattle.wire_desk.specs.declared.written.Written.{Written};
 
 use library_desk::laws::serving_happens;
-use switchboard::laws::{boards_go_on, boards_stay_ready, boards_stay_told, pieces_are_handled};
+use session_book::laws::runs_are_begun;
+use switchboard::laws::{
+    boards_go_on, boards_stay_ready, boards_stay_told, pieces_are_handled, stops_are_told,
+};
 
 /// Whatever happens at a moment is accounted for, where each message that is handed out is the next that
 /// is handled.
@@ -187,4 +196,40 @@ pub fn turns_are_accounted_for()
 {
     serving_happens();
     happenings_are_accounted_for();
+}
+
+/// Where a turn stops for want of memory, all that happened is accounted for up to a beginning of the last
+/// acts, where it was so before.
+pub fn stops_are_accounted_for()
+    // Nothing stopped; and a stop behind what is accounted for.
+    ensures whole { (before : ℕ → List Entry) (start : ℕ → State) (at : ℕ) (board : Board) → IsReady before board → IsAccountedFor before start at board → IsAccountedInPart before start board }
+    ensures further { (one two : ℕ → Progress) (at : ℕ) (first second third : Board) → KeepsAccount one two at first second → StopsAccountedFor two at second third → StopsAccountedFor one at first third }
+    // Nothing is told, or what a message, a bind, a dial or the clock asks for is begun.
+    ensures untold { (progress : ℕ → Progress) (at : ℕ) (old new : Board) → NothingIsTold old new → StopsAccountedFor progress at old new }
+    ensures receives { (s k : ℕ) (body : List ℕ) (at : ℕ) (old new : Board) → StopsIn (receives s k body at) old new → StopsAccountedFor (only k (handling body)) at old new }
+    ensures binds { (s k : ℕ) (body : List ℕ) (at : ℕ) (old new : Board) → StopsIn (binds s k body at) old new → StopsAccountedFor (only k (handling body)) at old new }
+    ensures dials { (progress : ℕ → Progress) (s number at : ℕ) (old new : Board) → StopsIn (dials s number at) old new → StopsAccountedFor progress at old new }
+    ensures ticks { (progress : ℕ → Progress) (s at : ℕ) (old new : Board) → StopsIn (ticks s at) old new → StopsAccountedFor progress at old new }
+    // What a session does in a turn.
+    ensures hearing { (s k : ℕ) (body : List ℕ) (at until : ℕ) (old new : LeaseDesk) → StopsHearing s k body at until old new → StopsAccountedFor (only k (handling body)) at old.board new.board }
+    ensures greeting { (k : ℕ) (body : List ℕ) (at until : ℕ) (old new : LeaseDesk) → StopsGreeting k body at until old new → StopsAccountedFor (only k (handling body)) at old.board new.board }
+    ensures ticking { (progress : ℕ → Progress) (s at until : ℕ) (old new : LeaseDesk) → StopsTicking s at until old new → StopsAccountedFor progress at old.board new.board }
+    ensures dialling { (progress : ℕ → Progress) (s number at until : ℕ) (old new : LeaseDesk) → StopsDialling s number at until old new → StopsAccountedFor progress at old.board new.board }
+    // What is done at the wire.
+    ensures reading { (routes : Routes) (k at until : ℕ) (old : Sessions) (new : LeaseDesk) → StopsReading routes k at until old new → StopsAccountedFor all_done at old.desk.board new.board }
+    ensures calling { (progress : ℕ → Progress) (dialled s at until : ℕ) (old new : LeaseDesk) → StopsCalling dialled s at until old new → StopsAccountedFor progress at old.board new.board }
+    ensures writing { (places : List ℕ) (at : ℕ) (old : WrittenSoFar) (new : LeaseDesk) → StopsWriting places old new → StopsAccountedFor all_done at old.sessions.desk.board new.board }
+    // What is done for a library.
+    ensures taking_back { (library at until : ℕ) (old new : LeaseDesk) → TakesBackSome library at until old new → StopsAccountedFor all_done at old.board new.board }
+    ensures serving { (library at until : ℕ) (old new : LibraryDesk) → StopsServing library at until old new → StopsAccountedFor all_done at old.desk.board new.desk.board }
+    // A turn. No session comes or goes in it, and each has the names and the leases that it had.
+    ensures turn { (before : ℕ → List Entry) (start : ℕ → State) (reading : ℕ) (old : AtWire) (new : Engine) → StopsTurn reading old new → IsReady before (board_of old.engine)
+        → IsAccountedFor before start old.engine.moment (board_of old.engine) → IsAccountedInPart before start (board_of new) }
+    ensures sessions { (reading : ℕ) (old : AtWire) (new : Engine) → StopsTurn reading old new → HaveSameSessions (board_of old.engine) (board_of new) }
+{
+    serving_happens();
+    happenings_are_accounted_for();
+    boards_go_on();
+    stops_are_told();
+    runs_are_begun();
 }
