@@ -1,7 +1,7 @@
 -- A library that calls or meets the engine stays at its table and rings.
 use Rattle.std.proofs.Common.{◌≡◌, ℕ, ◌<◌, List, length, set, Option, None, Some, Result, Ok, Err, refl, ap, subst, sym, ◌∙◌}
 use Rattle.std.proofs.lemmas.List.{length-set}
-use Rattle.std.specs.Prelude.{IfOk, OnOk, slice_get}
+use Rattle.std.specs.Prelude.{IfOk, OnErr, OnOk, slice_get}
 use Rattle.library_api.specs.Ends.{Belongings, belongings}
 use Rattle.library_desk.specs.declared.shared.Shared.{Shared}
 use Rattle.ring_links.specs.Ends.{RingId}
@@ -13,6 +13,11 @@ use Rattle.script_run.proofs.Places.{set_each}
 pub on_ok : {T E P Q : Type 0} (r : Result T E) → (P → Q) → OnOk r P → OnOk r Q
 on_ok (Ok x) follows holds = follows holds
 on_ok (Err e) follows holds = tt
+
+-- and where it didn't
+pub on_err : {T E P : Type 0} (r : Result T E) → P → OnErr r P
+on_err (Ok x) holds = tt
+on_err (Err e) holds = holds
 
 pub if_ok : {T E : Type 0} (P Q : T → Type 0) (r : Result T E) → ((x : T) → P x → Q x) → IfOk r P → IfOk r Q
 if_ok P Q (Ok x) follows holds = follows x holds

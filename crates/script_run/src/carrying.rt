@@ -1,7 +1,8 @@
 //! A script, carried out from its first step to its last.
 
-ghost use Rattle.std.specs.Prelude.{◌≡◌, ◌≤◌, IfErr, IfOk, false, length};
+ghost use Rattle.std.specs.Prelude.{◌≡◌, ◌≤◌, IfErr, IfOk, false, length, ◌⊎◌};
 ghost use Rattle.std.specs.List.{All};
+ghost use Rattle.script_run.specs.Stops.{LeadsInPart, MeansInPart, no_run};
 ghost use Rattle.engine_end.specs.Records.{HasLawfulJournal};
 ghost use Rattle.script_run.specs.Comes.{FitBehind};
 ghost use Rattle.script_run.specs.Means.{LeadsTo, Means, first_moment};
@@ -24,6 +25,8 @@ use std::alloc::Global;
 pub fn carry_out(alloc: Global, script: Script) -> Result<RunRecord, (NoMemory, RunRecord)>
     requires lawful { IsLawful false script }
     ensures means { IfOk result (Means script) }
+    // Without memory the run doesn't begin, or so many steps are carried out, and of one a beginning.
+    ensures in_part { IfErr result (λ e. (e.1 ≡ no_run) ⊎ MeansInPart script e.1) }
     ensures journals { IfOk result (λ left. All HasLawfulJournal left.engine.sessions) }
     ensures journals_short { IfErr result (λ e. All HasLawfulJournal e.1.engine.sessions) }
 {
@@ -52,6 +55,7 @@ fn carry_to_end(
     requires fit { FitBehind (length run.callers.items) run.wire steps.now }
     requires room { length run.callers.items ≤ room }
     ensures leads { IfOk result (LeadsTo steps.now run) }
+    ensures in_part { IfErr result (λ e. LeadsInPart steps.now run e.1) }
     ensures journals { IfOk result (λ left. All HasLawfulJournal left.engine.sessions) }
     ensures journals_short { IfErr result (λ e. All HasLawfulJournal e.1.engine.sessions) }
 {
@@ -65,7 +69,8 @@ fn carry_to_end(
 
 /// The record of a run that didn't begin.
 fn no_record(alloc: Global) -> RunRecord
-    ensures { All HasLawfulJournal result.engine.sessions }
+    ensures journals { All HasLawfulJournal result.engine.sessions }
+    ensures none { result ≡ no_run }
 {
     RunRecord {
         engine: EngineRecord {

@@ -2,12 +2,14 @@
 
 ghost use Rattle.std.specs.Prelude.{◌≡◌, ◌≤◌, [], IfErr, IfOk, length, map, vec_capacity};
 ghost use Rattle.std.specs.List.{All};
+ghost use Rattle.script_run.specs.Stops.{LeavesInPart};
 ghost use Rattle.engine_end.specs.Records.{HasLawfulJournal};
 ghost use Rattle.lease_words.specs.Views.{LibraryView};
 ghost use Rattle.script_run.specs.Means.{Leaves, report_of, seat_of};
 ghost use Rattle.script_run.specs.Runs.{IsRunning};
 
 use crate::callers::Caller;
+use crate::laws::engines_leave_as_they_stood;
 use crate::run::Run;
 use engine_loop::Engine;
 use gate_io::{NoMemory, Rows};
@@ -107,10 +109,14 @@ impl Run {
         requires running { IsRunning shared.now self }
         requires room { length self.callers.items ≤ room }
         ensures leaves { IfOk result (Leaves self) }
+        // A run whose turns were whole leaves what one does that stopped between them.
+        ensures whole { IfOk result (LeavesInPart self) }
+        ensures in_part { IfErr result (λ e. LeavesInPart self e.1) }
         ensures libraries { IfErr result (λ e. e.1.libraries ≡ map report_of self.callers.items) }
         ensures journals { IfOk result (λ left. All HasLawfulJournal left.engine.sessions) }
         ensures journals_short { IfErr result (λ e. All HasLawfulJournal e.1.engine.sessions) }
     {
+        engines_leave_as_they_stood();
         let Run {
             engine,
             callers,

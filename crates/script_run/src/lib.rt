@@ -5,6 +5,7 @@
 mod callers;
 mod carrying;
 mod coming;
+pub mod laws;
 mod leaving;
 mod meeting;
 mod run;

@@ -1,6 +1,8 @@
 //! A run, and what each step of a script does to it.
 
-ghost use Rattle.std.specs.Prelude.{◌≡◌, ◌<◌, ℕ, OnOk, false, length};
+ghost use Rattle.std.specs.Prelude.{◌≡◌, ◌<◌, ℕ, OnOk, false, length, OnErr};
+ghost use Rattle.engine_loop.specs.Stops.{StopsTurn};
+ghost use Rattle.script_run.specs.Stops.{KeepsBoard, StopsAlong, StopsInStep};
 ghost use Rattle.engine_loop.specs.Turns.{MakesTurn, at_wire};
 ghost use Rattle.engine_loop.specs.declared.engine.Engine.{Engine};
 ghost use Rattle.engine_loop.specs.declared.records.Turn.{Turn};
@@ -42,6 +44,7 @@ impl Run {
         requires running { IsRunning shared.now self.old }
         requires stands { self.old.engine.failed ≡ false }
         requires fits { FitsOn (length self.old.callers.items) self.old.wire step.now }
+        ensures stops { OnErr result (StopsInStep self.old self.new) }
         ensures carries { OnOk result (Carries step.now self.old self.new) }
         ensures running { IsRunning shared.now self.new }
         ensures stands { OnOk result (self.new.engine.failed ≡ false) }
@@ -77,6 +80,7 @@ impl Run {
     fn turn(&mut self, alloc: Global, shared: &Shared) -> Result<(), NoMemory>
         requires running { IsRunning shared.now self.old }
         requires stands { self.old.engine.failed ≡ false }
+        ensures stops { OnErr result (StopsInStep self.old self.new) }
         ensures turns { OnOk result (TurnsOver (with_room self.old) self.new) }
         ensures running { IsRunning shared.now self.new }
         ensures stands { OnOk result (self.new.engine.failed ≡ false) }
@@ -104,6 +108,7 @@ impl Run {
     fn turn_over(&mut self, alloc: Global, shared: &Shared) -> Result<(), NoMemory>
         requires running { IsRunning shared.now self.old }
         requires stands { self.old.engine.failed ≡ false }
+        ensures stops { OnErr result ((reading : ℕ) × StopsTurn reading (at_wire self.old.engine (door_of self.old.wire) (link_at self.old.wire)) self.new.engine) }
         ensures turns { OnOk result (TurnsOver self.old self.new) }
         ensures running { IsRunning shared.now self.new }
         ensures stands { OnOk result (self.new.engine.failed ≡ false) }
@@ -129,6 +134,7 @@ impl Run {
         requires stands { self.old.engine.failed ≡ false }
         requires place { place < length self.old.callers.items }
         requires fits { ActFits false act.now }
+        ensures keeps { OnErr result (KeepsBoard self.old.engine self.new.engine) }
         ensures calls { OnOk result (CallsBetween act.now place self.old self.new) }
         ensures running { IsRunning shared.now self.new }
         ensures stands { self.new.engine.failed ≡ false }
@@ -190,6 +196,7 @@ impl Run {
         requires running { IsRunning shared.now self.old }
         requires stands { self.old.engine.failed ≡ false }
         requires fit { FitBehind (length self.old.callers.items) self.old.wire steps.now }
+        ensures stops { OnErr result (StopsAlong steps.now self.old self.new) }
         ensures carries { OnOk result (CarriesOut steps.now (length steps.now) self.old self.new) }
         ensures running { IsRunning shared.now self.new }
         ensures count { length self.new.callers.items ≡ length self.old.callers.items }

@@ -1,4 +1,5 @@
 mod Drives
 mod Places
 mod Plans
+mod Stopping
 mod Working

@@ -4,3 +4,4 @@ pub mod Ended
 pub mod Drives
 pub mod Meetings
 pub mod Serves
+pub mod Stops

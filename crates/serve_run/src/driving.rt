@@ -1,11 +1,13 @@
 //! The engine's side of a run: its turns, one after another.
 
-ghost use Rattle.std.specs.Prelude.{◌≡◌, [], ◌∷◌, IfOk, OnErr, OnOk, false, true};
+ghost use Rattle.std.specs.Prelude.{◌≡◌, [], ◌∷◌, IfOk, OnErr, OnOk, false, true, ℕ};
 ghost use Rattle.engine_loop.specs.Engines.{IsEngine};
+ghost use Rattle.engine_loop.specs.Stops.{StopsTurn};
 ghost use Rattle.engine_loop.specs.Turns.{at_wire};
 ghost use Rattle.gate_io.specs.Clock.{TakesReadings};
 ghost use Rattle.serve_run.specs.Drives.{DrivesToEnd, MakesAndWaits};
 ghost use Rattle.serve_run.specs.Ended.{Awaits};
+ghost use Rattle.serve_run.specs.Stops.{DrivesInPart};
 
 use crate::awaited::Awaited;
 use engine_loop::laws::engines_stay;
@@ -32,6 +34,8 @@ pub(crate) fn drive<W: Dial, C: Clock>(
     requires stands { engine.old.failed ≡ false }
     requires awaits { Awaits awaited.old.connections awaited.old.libraries [] awaited.old }
     ensures drives { IfOk result (λ over. DrivesToEnd awaited.old.connections awaited.old.libraries turns over (λ readings. TakesReadings C.has_read clock.old readings clock.new) (at_wire engine.old (W.door wire.old) (W.link wire.old)) (at_wire engine.new (W.door wire.new) (W.link wire.new))) }
+    // Without memory a turn stops.
+    ensures stops { OnErr result (DrivesInPart awaited.old.connections awaited.old.libraries turns (at_wire engine.old (W.door wire.old) (W.link wire.old)) engine.new) }
     ensures engine { IsEngine shared.now engine.new (W.door wire.new) (W.link wire.new) }
     ensures stands { OnOk result (engine.new.failed ≡ false) }
     ensures failed { OnErr result (engine.new.failed ≡ true) }
@@ -57,6 +61,7 @@ fn turn<W: Dial, C: Clock>(
     requires engine { IsEngine shared.now engine.old (W.door wire.old) (W.link wire.old) }
     requires stands { engine.old.failed ≡ false }
     ensures makes { IfOk result (λ turn. MakesAndWaits (C.last clock.new) turn (at_wire engine.old (W.door wire.old) (W.link wire.old)) (at_wire engine.new (W.door wire.new) (W.link wire.new))) }
+    ensures stops { OnErr result ((reading : ℕ) × StopsTurn reading (at_wire engine.old (W.door wire.old) (W.link wire.old)) engine.new) }
     ensures reads { OnOk result (TakesReadings C.has_read clock.old (C.last clock.new ∷ []) clock.new) }
     ensures engine { IsEngine shared.now engine.new (W.door wire.new) (W.link wire.new) }
     ensures stands { OnOk result (engine.new.failed ≡ false) }

@@ -2,14 +2,15 @@
 
 ghost use Rattle.std.specs.Prelude.{◌≡◌, ◌≤◌, [], IfErr, IfOk, length, map, vec_capacity};
 ghost use Rattle.std.specs.List.{All};
+ghost use Rattle.std.specs.Prelude.{ℕ};
 ghost use Rattle.engine_end.specs.Finishing.{Finishes};
 ghost use Rattle.engine_end.specs.Records.{HasLawfulJournal};
 ghost use Rattle.engine_loop.specs.Engines.{IsEngine, until_of};
 ghost use Rattle.gate_io.specs.Wire.{Door, Link};
+ghost use Rattle.script_run.specs.Stops.{LeavesAsItStood};
 ghost use Rattle.serve_run.specs.Meetings.{AreWorkers};
 ghost use Rattle.serve_run.specs.Serves.{LeavesRecord};
 ghost use Rattle.serve_run.specs.Workers.{report_of, seat_of};
-ghost use Rattle.std.specs.Prelude.{ℕ};
 
 use crate::workers::Worker;
 use engine_loop::Engine;
@@ -17,6 +18,7 @@ use gate_io::{NoMemory, Rows};
 use lease_words::LibrarySeat;
 use library_desk::Shared;
 use run_report::{LibReport, RunRecord};
+use script_run::laws::engines_leave_as_they_stood;
 use std::alloc::Global;
 use std::marker::Model;
 
@@ -103,10 +105,14 @@ pub(crate) fn leave(
     requires workers { AreWorkers shared.now workers.items }
     requires room { length workers.items ≤ room }
     ensures leaves { IfOk result (LeavesRecord engine workers.items) }
+    // An engine whose turns were whole leaves what one does that stopped between them.
+    ensures whole { IfOk result (λ left. LeavesAsItStood (map seat_of workers.items) engine left.engine) }
+    ensures in_part { IfErr result (λ e. LeavesAsItStood (map seat_of workers.items) engine e.1.engine) }
     ensures libraries { IfErr result (λ e. e.1.libraries ≡ map report_of workers.items) }
     ensures journals { IfOk result (λ left. All HasLawfulJournal left.engine.sessions) }
     ensures journals_short { IfErr result (λ e. All HasLawfulJournal e.1.engine.sessions) }
 {
+    engines_leave_as_they_stood();
     let (seats, reports) = room.fill(workers);
     let libraries = Rows::of(reports);
     match engine.finish(alloc, shared, seats) {

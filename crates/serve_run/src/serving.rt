@@ -1,6 +1,6 @@
 //! A script, served from its beginning to what it leaves.
 
-ghost use Rattle.std.specs.Prelude.{◌≡◌, ◌≤◌, ℕ, IfErr, IfOk, IsErr, OnErr, OnOk, Some, false, true, length, slice_get};
+ghost use Rattle.std.specs.Prelude.{◌≡◌, ◌≤◌, ℕ, IfErr, IfOk, IsErr, OnErr, OnOk, Some, false, true, length, slice_get, ◌⊎◌};
 ghost use Rattle.std.specs.List.{All};
 ghost use Rattle.engine_end.specs.Records.{HasLawfulJournal};
 ghost use Rattle.engine_loop.specs.Engines.{IsEngine};
@@ -8,9 +8,11 @@ ghost use Rattle.engine_start.specs.Starts.{AreLibraryEnds};
 ghost use Rattle.engine_start.specs.declared.ends.LibraryEnds.{LibraryEnds as TheEnds};
 ghost use Rattle.gate_io.specs.Clock.{TakesReadings};
 ghost use Rattle.gate_io.specs.Wire.{Door, Link};
+ghost use Rattle.script_run.specs.Stops.{no_run};
 ghost use Rattle.script_text.specs.Lawful.{IsLawful};
 ghost use Rattle.serve_run.specs.Meetings.{AreWorkers};
 ghost use Rattle.serve_run.specs.Serves.{Concludes, Serves, first_unfinished};
+ghost use Rattle.serve_run.specs.Stops.{LeavesInPart, ServesInPart};
 ghost use Rattle.serve_run.specs.Workers.{StartsWorkers};
 
 use crate::awaited::Awaited;
@@ -60,6 +62,8 @@ pub fn serve_script<R: Threads + Sync, W: Dial + Send, C: Clock + Send, G: Gate 
     requires accepted { (W.door wire.old).accepted ≡ 0 }
     requires dialled { (W.door wire.old).dialled ≡ 0 }
     ensures serves { IfOk result (λ served. Serves script turns (G.open_wide gate.now) (λ readings. TakesReadings C.has_read clock.old readings clock.new) (W.door wire.old) (W.door wire.new) (W.link wire.old) (W.link wire.new) served.run served.spent) }
+    // Without memory nothing is begun, and nothing asked of the wire; or what engine and libraries did is left.
+    ensures in_part { IfErr result (λ e. ((e.1 ≡ no_run) × (wire.new ≡ wire.old)) ⊎ ServesInPart script turns (G.open_wide gate.now) (W.door wire.old) (W.link wire.old) e.1) }
     ensures journals { IfOk result (λ served. All HasLawfulJournal served.run.engine.sessions) }
     ensures journals_short { IfErr result (λ e. All HasLawfulJournal e.1.engine.sessions) }
 {
@@ -130,6 +134,7 @@ fn conclude(
     requires workers { AreWorkers shared.now workers.items }
     requires room { length workers.items ≤ room }
     ensures concludes { IfOk result (λ served. IfOk ended (λ over. Concludes over engine workers.items served.run served.spent)) }
+    ensures in_part { IfErr result (λ e. LeavesInPart engine workers.items e.1) }
     ensures ended { OnErr ended (IsErr result) }
     ensures journals { IfOk result (λ served. All HasLawfulJournal served.run.engine.sessions) }
     ensures journals_short { IfErr result (λ e. All HasLawfulJournal e.1.engine.sessions) }
@@ -177,7 +182,8 @@ fn first_unfinished(reports: &[LibReport]) -> Option<u8>
 
 /// The record of a run that didn't begin.
 fn no_record(alloc: Global) -> RunRecord
-    ensures { All HasLawfulJournal result.engine.sessions }
+    ensures journals { All HasLawfulJournal result.engine.sessions }
+    ensures none { result ≡ no_run }
 {
     RunRecord {
         engine: EngineRecord {

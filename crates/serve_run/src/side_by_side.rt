@@ -9,6 +9,7 @@ ghost use Rattle.gate_io.specs.Clock.{TakesReadings};
 ghost use Rattle.serve_run.specs.Drives.{DrivesToEnd};
 ghost use Rattle.serve_run.specs.Ended.{Awaits};
 ghost use Rattle.serve_run.specs.Meetings.{AreWorkers};
+ghost use Rattle.serve_run.specs.Stops.{DrivesInPart};
 ghost use Rattle.serve_run.specs.Workers.{AllWork, IsReady, IsWorker, Works};
 
 use crate::awaited::Awaited;
@@ -40,6 +41,7 @@ pub(crate) fn run_all<R: Threads + Sync, W: Dial + Send, C: Clock + Send, G: Gat
     requires awaits { Awaits awaited.old.connections awaited.old.libraries [] awaited.old }
     requires ready { All (IsReady shared.now) workers.old.items }
     ensures drives { IfOk result (λ over. DrivesToEnd awaited.old.connections awaited.old.libraries turns over (λ readings. TakesReadings C.has_read clock.old readings clock.new) (at_wire engine.old (W.door wire.old) (W.link wire.old)) (at_wire engine.new (W.door wire.new) (W.link wire.new))) }
+    ensures stops { OnErr result (DrivesInPart awaited.old.connections awaited.old.libraries turns (at_wire engine.old (W.door wire.old) (W.link wire.old)) engine.new) }
     ensures engine { IsEngine shared.now engine.new (W.door wire.new) (W.link wire.new) }
     ensures stands { OnOk result (engine.new.failed ≡ false) }
     ensures work { AllWork (G.open_wide gate.now) turns workers.old.items workers.new.items }
@@ -51,7 +53,8 @@ pub(crate) fn run_all<R: Threads + Sync, W: Dial + Send, C: Clock + Send, G: Gat
             requires { IsEngine shared.now engine.now (W.door wire.now) (W.link wire.now) × (engine.now.failed ≡ false) × Awaits awaited.now.connections awaited.now.libraries [] awaited.now }
             ensures { IfOk result (λ over. DrivesToEnd awaited.entry.now.connections awaited.entry.now.libraries turns over (λ readings. TakesReadings C.has_read clock.entry.now readings clock.exit.now) (at_wire engine.entry.now (W.door wire.entry.now) (W.link wire.entry.now)) (at_wire engine.exit.now (W.door wire.exit.now) (W.link wire.exit.now)))
                 × IsEngine shared.entry.now engine.exit.now (W.door wire.exit.now) (W.link wire.exit.now)
-                × OnOk result (engine.exit.now.failed ≡ false) }
+                × OnOk result (engine.exit.now.failed ≡ false)
+                × OnErr result (DrivesInPart awaited.entry.now.connections awaited.entry.now.libraries turns (at_wire engine.entry.now (W.door wire.entry.now) (W.link wire.entry.now)) engine.exit.now) }
         { drive(alloc, shared, turns, awaited, engine, wire, clock) },
         &mut ||
             requires { IsSync R.row × IsSync G.row × (1 ≤ turns) × All (IsReady shared.now) workers.now.items }

@@ -5,6 +5,7 @@ use Rattle.library_desk.specs.declared.serving.LibTurn.{LibTurn}
 use Rattle.serve_run.specs.Drives.{drive_of}
 use Rattle.serve_run.specs.Ended.{or_ended}
 use Rattle.serve_run.proofs.Drives.{awaits_more, awaits_on, over_from, over_to, own_awaits, takes_more}
+use Rattle.serve_run.proofs.Stopping.{on_err}
 use Rattle.serve_run.proofs.driving.drive.Goals as goal
 
 pub returns-then-is_over-clause-drives : goal.returns-then-is_over-clause-drives
@@ -79,3 +80,16 @@ returns-clause-drives g c =
       ended = λ is. over_from connections libraries was.turns awaited c.loop-made.engine was.awaits (c.is_over-2.ensures.over was.turns own is);
       spent = λ is. (omega arith, λ over. c.is_over-2.ensures.open was.turns own is (over_to connections libraries was.turns awaited c.loop-made.engine was.awaits over));
     }
+
+pub returns-in_err-turn-clause-stops : goal.returns-in_err-turn-clause-stops
+returns-in_err-turn-clause-stops g c =
+    let was = c.loop-made.invariant in
+    let stops = c.in_err-turn.ensures.stops in
+    on_err c.from_residual.result (record {
+      count = c.loop-made._made;
+      few = c.loop-made-test.true;
+      between = drive_of (at_wire c.loop-made.engine (g.W.Wire.door c.loop-made.wire) (g.W.Wire.link c.loop-made.wire)) was.turns was.readings;
+      drives = was.drives;
+      reading = stops.0;
+      stops = stops.1;
+    })

@@ -2,6 +2,7 @@ use Rattle.std.proofs.Common.{◌≡◌, ℕ, length, drop, add-one, refl, subst
 use Rattle.std.proofs.lemmas.Option.{slice_get_read}
 use Rattle.script_run.specs.Comes.{FitBehind, FitsOn}
 use Rattle.script_run.proofs.Fit.{first_fits, rest_fit}
+use Rattle.script_run.proofs.Seated.{on_err}
 use Rattle.script_run.proofs.run.Run.carry_all.Goals as goal
 
 pub carry-requires-clause-fits : goal.carry-requires-clause-fits
@@ -23,3 +24,7 @@ loop-step-preserved c =
       fit = rw add-one (rest_fit (length c.args.self.now.callers.items) c.loop-step.self.wire c.carry.new.self.wire steps i c.step-item.result c.loop-step-test.true (sym c.step-item.is) now.made was.fit);
       count = now.count ∙ was.count;
     }
+
+pub returns-in_err-carry-clause-stops : goal.returns-in_err-carry-clause-stops
+returns-in_err-carry-clause-stops c =
+    on_err c.from_residual.result (record { count = c.loop-step.step-index; few = c.loop-step-test.true; between = c.loop-step.self; carries = c.loop-step.invariant.carries; stops = c.in_err-carry.ensures.stops; libraries = c.carry.ensures.count })
