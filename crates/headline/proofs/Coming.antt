@@ -8,8 +8,9 @@ use Rattle.connection_core.specs.Outgoing.{Outlet}
 use Rattle.engine_config.specs.declared.config.Config.{Config}
 use Rattle.engine_end.specs.Records.{accepted_of, dialled_of}
 use Rattle.engine_loop.specs.Engines.{until_of}
-use Rattle.engine_loop.specs.Turns.{AcceptsNext, AtWire, DialsSession, MakesTurn, accepted_after, at_wire, with_moment}
+use Rattle.engine_loop.specs.Turns.{AcceptsNext, AtWire, DialsSession, MakesTurn, TakesTurn, accepted_after, at_wire, with_moment}
 use Rattle.engine_loop.specs.declared.engine.Engine.{Engine}
+use Rattle.engine_loop.specs.declared.records.Taken.{Taken}
 use Rattle.engine_loop.specs.declared.records.Turn.{Turn}
 use Rattle.gate_io.specs.MemWire.{ChangesLink, LinkState, WireState, is_of_dial}
 use Rattle.gate_io.specs.Wire.{Accepts, Dials as TheWireDials, Door, Link}
@@ -42,7 +43,7 @@ use Rattle.wire_desk.specs.Steps.{AcceptsAs}
 use Rattle.wire_desk.specs.declared.dialling.Dialler.{Dialler}
 
 -- one number more
-numbers_more : (first count : ℕ) → numbers_from first (suc count) ≡ numbers_from first count ++ (first + count) ∷ []
+pub numbers_more : (first count : ℕ) → numbers_from first (suc count) ≡ numbers_from first count ++ (first + count) ∷ []
 numbers_more first zero = (let e : first ≡ first + 0 = omega arith in ap (λ n. n ∷ []) e)
 numbers_more first (suc count) =
     let e : first + 1 + count ≡ first + suc count = omega arith in
@@ -115,7 +116,7 @@ asked accept.Failed at count_old count_new door_old door_new links old new answe
           (subst (λ (desk : LeaseDesk). AreInOrder door_old.accepted door_old.dialled desk.board.connections) (sym same) was.connections);
     }
 
-next_accepted : (answer : Accepted) (old new : AtWire) → AcceptsNext answer old new → AtWireInOrder old → AtWireInOrder new
+pub next_accepted : (answer : Accepted) (old new : AtWire) → AcceptsNext answer old new → AtWireInOrder old → AtWireInOrder new
 next_accepted answer old new is was = elim is [
   | inl asks ↦ asked answer old.engine.moment old.engine.accepted new.engine.accepted old.door new.door new.links old.engine.sessions.desk new.engine.sessions.desk asks.answers asks.accepts asks.counted was
   | inr none ↦ subst AtWireInOrder (sym none.1.1) was
@@ -151,6 +152,9 @@ session_dialled s old new is was =
     (dialled_as is.answer s old.engine.moment (until_of old.engine) old.engine.accepted old.door new.door old.links new.links old.engine.sessions.desk new.engine.sessions.desk old.engine.dialler new.engine.dialler
     is.answers is.unasked is.dials was)
 
+pub all_dialled : (count : ℕ) (old new : AtWire) → InTurn DialsSession count old new → AtWireInOrder old → AtWireInOrder new
+all_dialled count old new dials = each_in_turn DialsSession (λ a b. AtWireInOrder a → AtWireInOrder b) (λ a i. i) (λ a b c one two i. two (one i)) session_dialled count old new dials
+
 -- the other steps
 kept_at : (door : Door) (old new : Engine) → EngineKeeps Steady steady_kept old new → AreAt old.accepted door old.sessions.desk.board → AreAt new.accepted door new.sessions.desk.board
 kept_at door old new keeps was = record {
@@ -159,14 +163,17 @@ kept_at door old new keeps was = record {
 }
 
 module _ (serves : (library at until : ℕ) (old new : LibraryDesk) (turn : LibTurn) → Serves library at until old new turn → RunsFor at old.desk.board new.desk.board) where
+  -- the first half of a turn
+  pub half_taken : (reading : ℕ) (old new : AtWire) (taken : Taken) (takes : TakesTurn reading old new taken) → AtWireInOrder old → AreAt new.engine.accepted takes.dialled.door new.engine.sessions.desk.board
+  half_taken reading old new taken takes was =
+      let accepted = next_accepted taken.accepted (at_wire (with_moment reading old.engine) old.door old.links) takes.accepted takes.accepts was in
+      kept_at takes.dialled.door takes.dialled.engine new.engine (turn_taken Steady steady_kept serves reading old new taken takes)
+      (all_dialled (length takes.accepted.engine.sessions.desk.board.sessions) takes.accepted takes.dialled takes.dials accepted)
+
   pub turn_made : (reading : ℕ) (old new : AtWire) (turn : Turn) → MakesTurn reading old new turn → AtWireInOrder old → AtWireInOrder new
   turn_made reading old new turn is was =
       let takes = is.takes in
-      let begun = at_wire (with_moment reading old.engine) old.door old.links in
-      let accepted = next_accepted is.taken.accepted begun takes.accepted takes.accepts was in
-      let dialled = each_in_turn DialsSession (λ a b. AtWireInOrder a → AtWireInOrder b) (λ a i. i) (λ a b c one two i. two (one i)) session_dialled
-      (length takes.accepted.engine.sessions.desk.board.sessions) takes.accepted takes.dialled takes.dials accepted in
-      let middle = kept_at takes.dialled.door takes.dialled.engine is.middle.engine (turn_taken Steady steady_kept serves reading old is.middle is.taken takes) dialled in
+      let middle = half_taken reading old is.middle is.taken takes was in
       let ended = kept_at takes.dialled.door is.middle.engine new.engine (turn_given Steady steady_kept is.middle new is.taken turn is.gives) middle in
       subst (λ (d : Door). AreAt new.engine.accepted d new.engine.sessions.desk.board) (sym (is.gives.door ∙ takes.door)) ended
 

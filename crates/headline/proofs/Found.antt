@@ -8,10 +8,11 @@ use Rattle.std.specs.Prelude.{if◌then◌else◌, not}
 use Rattle.connection_core.specs.Connection.{ConnectionState}
 use Rattle.connection_core.specs.Record.{record_of}
 use Rattle.connection_core.specs.declared.records.ConnRecord.{ConnRecord}
-use Rattle.engine_end.specs.Records.{IsLeftBy, SessionLeft, accepted_of, dialled_of, left_in, left_of}
+use Rattle.engine_end.specs.Records.{IsLeftBy, SessionLeft, accepted_of, connection_records, dialled_of, left_in, left_of}
 use Rattle.gate_io.specs.declared.wires.TheConstants.{FIRST_DIALLED}
 use Rattle.headline.proofs.Lists.{joined_first, joined_found, joined_second, kept_found, kept_there, mapped_found, mapped_there}
 use Rattle.headline.specs.Headline.{AreNumbered, HasSession, number_at}
+use Rattle.headline.specs.InPart.{number_among}
 use Rattle.headline.specs.Numbering.{AreInOrder, numbers_of}
 use Rattle.lease_core.specs.declared.entry.Entry.{Entry}
 use Rattle.lease_core.specs.declared.record.Record.{Record}
@@ -53,6 +54,68 @@ number_of first count cs i are within =
     sym (get_or-map (λ (c : ConnectionState). c.number) cs i no_connection 0 within) ∙ ap (λ ns. get_or ns i 0) are
     ∙ number_is first count i 0 (let many = as_many first count cs are in omega arith)
 
+number_below : (accepted place : ℕ) → place < accepted → number_among accepted place ≡ place
+number_below accepted place below = ap (λ b. if b then place else FIRST_DIALLED + (place - accepted)) (lt-ltb place accepted below)
+
+number_above : (accepted place : ℕ) → accepted ≤ place → number_among accepted place ≡ FIRST_DIALLED + (place - accepted)
+number_above accepted place above = ap (λ b. if b then place else FIRST_DIALLED + (place - accepted)) (le-ltb place accepted above)
+
+-- a record that has these connections, where so many were accepted and dialled, and are numbered in order
+module _ (connections : List ConnectionState) (left : RunRecord) (accepted dialled : ℕ) (are : left.engine.connections ≡ connection_records connections)
+    (accepted_are : numbers_of (accepted_of connections) ≡ numbers_from 0 accepted) (dialled_are : numbers_of (dialled_of connections) ≡ numbers_from FIRST_DIALLED dialled) where
+  abbrev accepted_ones : List ConnectionState
+  accepted_ones = accepted_of connections
+
+  abbrev dialled_ones : List ConnectionState
+  dialled_ones = dialled_of connections
+
+  -- where the record has a connection
+  pub record HasPlace (k : ℕ) : Type 0 where
+    pub place : ℕ
+    pub at : slice_get left.engine.connections place ≡ Some (record_of (get_or connections k no_connection))
+    pub number : number_among accepted place ≡ (get_or connections k no_connection).number
+
+  accepted_there : (k : ℕ) → k < length connections → is_accepted (get_or connections k no_connection) ≡ true → HasPlace k
+  accepted_there k within is =
+      let kept = kept_there is_accepted connections no_connection k within is in
+      let small = kept.within in
+      let count = as_many 0 accepted accepted_ones accepted_are in
+      let many = length-map accepted_ones record_of in
+      let plain : 0 + kept.place ≡ kept.place = omega arith in
+      let at = joined_first (map record_of accepted_ones) (map record_of dialled_ones) kept.place (omega arith) ∙ mapped_there record_of accepted_ones no_connection kept.place kept.within ∙ ap (λ x. Some (record_of x)) kept.same in
+      record {
+        place = kept.place;
+        at = ap (λ all. slice_get all kept.place) are ∙ at;
+        number = number_below accepted kept.place (omega arith) ∙ sym (number_of 0 accepted accepted_ones kept.place accepted_are kept.within ∙ plain) ∙ ap (λ (x : ConnectionState). x.number) kept.same;
+      }
+
+  dialled_there : (k : ℕ) → k < length connections → is_dialled (get_or connections k no_connection) ≡ true → HasPlace k
+  dialled_there k within is =
+      let kept = kept_there is_dialled connections no_connection k within is in
+      let count = as_many 0 accepted accepted_ones accepted_are in
+      let many = length-map accepted_ones record_of in
+      let place = length (map record_of accepted_ones) + kept.place in
+      let at = joined_second (map record_of accepted_ones) (map record_of dialled_ones) kept.place ∙ mapped_there record_of dialled_ones no_connection kept.place kept.within ∙ ap (λ x. Some (record_of x)) kept.same in
+      let behind : FIRST_DIALLED + (place - accepted) ≡ FIRST_DIALLED + kept.place = omega arith in
+      record {
+        place = place;
+        at = ap (λ all. slice_get all place) are ∙ at;
+        number = number_above accepted place (omega arith) ∙ behind ∙ sym (number_of FIRST_DIALLED dialled dialled_ones kept.place dialled_are kept.within) ∙ ap (λ (x : ConnectionState). x.number) kept.same;
+      }
+
+  pub place_of : (k : ℕ) → k < length connections → HasPlace k
+  place_of k within = elim (either (get_or connections k no_connection).dialled) [
+    | inl is ↦ accepted_there k within is
+    | inr is ↦ dialled_there k within is
+  ]
+
+  pub few_accepted : accepted ≤ length left.engine.connections
+  few_accepted =
+      let count = as_many 0 accepted accepted_ones accepted_are in
+      let all = ap length are ∙ length-append (map record_of accepted_ones) (map record_of dialled_ones) in
+      let many = length-map accepted_ones record_of in
+      omega arith
+
 module _ (board : Board) (strays : List Stray) (accepted : ℕ) (added : List Record) (left : RunRecord) (is_left : IsLeftBy board strays accepted added left.engine) where
   -- a session of the record
   pub record IsSessionAt (s : ℕ) (session : SessionLeft) : Type 0 where
@@ -86,14 +149,11 @@ module _ (board : Board) (strays : List Stray) (accepted dialled : ℕ) (added :
   abbrev seconds : List ConnectionState
   seconds = dialled_of board.connections
 
+  pub counted : numbers_of firsts ≡ numbers_from 0 left.engine.accepted
+  counted = order.accepted_are ∙ ap (numbers_from 0) (sym is_left.accepted_is)
+
   first_count : length firsts ≡ left.engine.accepted
-  first_count = as_many 0 accepted firsts order.accepted_are ∙ sym is_left.accepted_is
-
-  number_below : (place : ℕ) → place < left.engine.accepted → number_at left place ≡ place
-  number_below place below = ap (λ b. if b then place else FIRST_DIALLED + (place - left.engine.accepted)) (lt-ltb place left.engine.accepted below)
-
-  number_above : (place : ℕ) → left.engine.accepted ≤ place → number_at left place ≡ FIRST_DIALLED + (place - left.engine.accepted)
-  number_above place above = ap (λ b. if b then place else FIRST_DIALLED + (place - left.engine.accepted)) (le-ltb place left.engine.accepted above)
+  first_count = as_many 0 left.engine.accepted firsts counted
 
   accepted_found : (place : ℕ) (c : ConnRecord) → slice_get (map record_of firsts) place ≡ Some c → IsConnectionAt place c
   accepted_found place c found =
@@ -106,7 +166,7 @@ module _ (board : Board) (strays : List Stray) (accepted dialled : ℕ) (added :
         k = kept.place;
         within = kept.within;
         is = one.is ∙ ap record_of kept.same;
-        number = sym (ap (λ (x : ConnectionState). x.number) kept.same) ∙ number_of 0 accepted firsts place order.accepted_are one.within ∙ plain ∙ sym (number_below place below);
+        number = sym (ap (λ (x : ConnectionState). x.number) kept.same) ∙ number_of 0 accepted firsts place order.accepted_are one.within ∙ plain ∙ sym (number_below left.engine.accepted place below);
         accepted_one = λ here. not_true (connection_at board kept.place).dialled kept.passes;
         dialled_one = λ here. absurd (omega arith);
       }
@@ -121,7 +181,7 @@ module _ (board : Board) (strays : List Stray) (accepted dialled : ℕ) (added :
         k = kept.place;
         within = kept.within;
         is = one.is ∙ ap record_of kept.same;
-        number = sym (ap (λ (x : ConnectionState). x.number) kept.same) ∙ number ∙ behind ∙ sym (number_above place (omega arith));
+        number = sym (ap (λ (x : ConnectionState). x.number) kept.same) ∙ number ∙ behind ∙ sym (number_above left.engine.accepted place (omega arith));
         accepted_one = λ here. absurd (omega arith);
         dialled_one = λ here. kept.passes;
       }
@@ -134,59 +194,15 @@ module _ (board : Board) (strays : List Stray) (accepted dialled : ℕ) (added :
         | inr second ↦ dialled_found (place - length (map record_of firsts)) place c (omega (arith, second.0, many)) second.1
       ]
 
-  -- where the record has a connection of the board
-  pub record HasPlace (k : ℕ) : Type 0 where
-    pub place : ℕ
-    pub at : slice_get left.engine.connections place ≡ Some (record_of (connection_at board k))
-    pub number : number_at left place ≡ (connection_at board k).number
-
-  accepted_there : (k : ℕ) → k < length board.connections → is_accepted (connection_at board k) ≡ true → HasPlace k
-  accepted_there k within is =
-      let kept = kept_there is_accepted board.connections no_connection k within is in
-      let small = kept.within in
-      let count = first_count in
-      let many = length-map firsts record_of in
-      let plain : 0 + kept.place ≡ kept.place = omega arith in
-      let at = joined_first (map record_of firsts) (map record_of seconds) kept.place (omega arith) ∙ mapped_there record_of firsts no_connection kept.place kept.within ∙ ap (λ x. Some (record_of x)) kept.same in
-      record {
-        place = kept.place;
-        at = ap (λ all. slice_get all kept.place) is_left.connections ∙ at;
-        number = number_below kept.place (omega arith) ∙ sym (number_of 0 accepted firsts kept.place order.accepted_are kept.within ∙ plain) ∙ ap (λ (x : ConnectionState). x.number) kept.same;
-      }
-
-  dialled_there : (k : ℕ) → k < length board.connections → is_dialled (connection_at board k) ≡ true → HasPlace k
-  dialled_there k within is =
-      let kept = kept_there is_dialled board.connections no_connection k within is in
-      let count = first_count in
-      let many = length-map firsts record_of in
-      let place = length (map record_of firsts) + kept.place in
-      let at = joined_second (map record_of firsts) (map record_of seconds) kept.place ∙ mapped_there record_of seconds no_connection kept.place kept.within ∙ ap (λ x. Some (record_of x)) kept.same in
-      let behind : FIRST_DIALLED + (place - left.engine.accepted) ≡ FIRST_DIALLED + kept.place = omega arith in
-      record {
-        place = place;
-        at = ap (λ all. slice_get all place) is_left.connections ∙ at;
-        number = number_above place (omega arith) ∙ behind ∙ sym (number_of FIRST_DIALLED dialled seconds kept.place order.dialled_are kept.within) ∙ ap (λ (x : ConnectionState). x.number) kept.same;
-      }
-
-  pub connection_there : (k : ℕ) → k < length board.connections → HasPlace k
-  connection_there k within = elim (either (connection_at board k).dialled) [
-    | inl is ↦ accepted_there k within is
-    | inr is ↦ dialled_there k within is
-  ]
+  pub connection_there : (k : ℕ) → k < length board.connections → HasPlace board.connections left left.engine.accepted dialled is_left.connections counted order.dialled_are k
+  connection_there = place_of board.connections left left.engine.accepted dialled is_left.connections counted order.dialled_are
 
   -- an accepted one counts as answered
   pub answered_one : (place : ℕ) (c : ConnRecord) (at : IsConnectionAt place c) → place < left.engine.accepted → (connection_at board at.k).answered ≡ true
   answered_one place c at below = order.answered at.k no_connection at.within (at.accepted_one below)
 
   pub numbered : (before : ℕ → List Entry) → IsReady before board → AreNumbered left
-  numbered before ready = record { accepted = most; apart = no_two } where
-    most : left.engine.accepted ≤ length left.engine.connections
-    most =
-        let count = first_count in
-        let all = ap length is_left.connections ∙ length-append (map record_of firsts) (map record_of seconds) in
-        let many = length-map firsts record_of in
-        omega arith
-
+  numbered before ready = record { accepted = few_accepted board.connections left left.engine.accepted dialled is_left.connections counted order.dialled_are; apart = no_two } where
     some_at : (j : ℕ) → j < length left.engine.connections → IsConnectionAt j (get_or left.engine.connections j (record_of no_connection))
     some_at j within = connection_found j _ (slice_get-get_or left.engine.connections j (record_of no_connection) within)
 
@@ -203,11 +219,11 @@ module _ (board : Board) (strays : List Stray) (accepted dialled : ℕ) (added :
     no_two : (j k : ℕ) → j < length left.engine.connections → k < length left.engine.connections → number_at left j ≡ number_at left k → j ≡ k
     no_two j k within_j within_k same = elim (cases_lt j left.engine.accepted) [
       | inl below_j ↦ elim (cases_lt k left.engine.accepted) [
-        | inl below_k ↦ sym (number_below j below_j) ∙ same ∙ number_below k below_k
+        | inl below_k ↦ sym (number_below left.engine.accepted j below_j) ∙ same ∙ number_below left.engine.accepted k below_k
         | inr above_k ↦ absurd (kinds j k within_j within_k below_j above_k same)
       ]
       | inr above_j ↦ elim (cases_lt k left.engine.accepted) [
         | inl below_k ↦ absurd (kinds k j within_k within_j below_k above_j (sym same))
-        | inr above_k ↦ (let e = sym (number_above j above_j) ∙ same ∙ number_above k above_k in omega arith)
+        | inr above_k ↦ (let e = sym (number_above left.engine.accepted j above_j) ∙ same ∙ number_above left.engine.accepted k above_k in omega arith)
       ]
     ]

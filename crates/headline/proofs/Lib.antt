@@ -23,3 +23,8 @@ mod RefutedLogons
 mod MeetsHeadline
 mod Few
 mod Finished
+mod InPartKinds
+mod InPartStops
+mod InPartTold
+mod InPartRuns
+mod RefutedInPart

@@ -43,13 +43,13 @@ each_in_turn Step Keeps itself further each (suc n) old new steps =
     further old steps.0 new (each_in_turn Step Keeps itself further each n old steps.0 steps.1) (each n steps.0 new steps.2)
 
 -- no connection comes
-abbrev IsQuiet : Happening → Type 0
+abbrev pub IsQuiet : Happening → Type 0
 IsQuiet happening = is_coming happening ≡ false
 
 none_quiet : All IsQuiet []
 none_quiet = All-nil IsQuiet
 
-one_quiet : (happening : Happening) → IsQuiet happening → All IsQuiet (happening ∷ [])
+pub one_quiet : (happening : Happening) → IsQuiet happening → All IsQuiet (happening ∷ [])
 one_quiet happening is = All-cons IsQuiet happening [] is none_quiet
 
 answering_quiet : (is : Bool) (k : ℕ) → All IsQuiet (if is then answers k ∷ [] else [])
@@ -66,7 +66,7 @@ lapsing_at_once : (is : Bool) (s : ℕ) → All IsQuiet (if is then [] else laps
 lapsing_at_once true s = none_quiet
 lapsing_at_once false s = one_quiet (lapses s) refl
 
-lapsing_quiet : (s : ℕ) (reserved : Option (ℕ × ℕ)) (now : ℕ) → All IsQuiet (lapsing s reserved now)
+pub lapsing_quiet : (s : ℕ) (reserved : Option (ℕ × ℕ)) (now : ℕ) → All IsQuiet (lapsing s reserved now)
 lapsing_quiet s None now = none_quiet
 lapsing_quiet s (Some reserved) now = lapsing_at_once (nat_lt now reserved.1) s
 
@@ -138,7 +138,7 @@ module _ (R : Board → Board → Type 0) (g : IsKept R) where
       (reached (receives s k body at ∷ (answering k end ++ ending s (Some k) end)) is.gathered.board new.board
       (All-cons IsQuiet (receives s k body at) (answering k end ++ ending s (Some k) end) refl rest) is.follows)
 
-  bound_by : (s k : ℕ) (body : List ℕ) (at : ℕ) (end : Option Cause) (old new : Board) → Happens (binding s k body at end) old new → R old new
+  pub bound_by : (s k : ℕ) (body : List ℕ) (at : ℕ) (end : Option Cause) (old new : Board) → Happens (binding s k body at end) old new → R old new
   bound_by s k body at None old new is = g.happens (binds s k body at) old new refl is
   bound_by s k body at (Some cause) old new is = g.happens (binds_and_ends s k body at cause) old new refl is
 
@@ -174,7 +174,7 @@ module _ (R : Board → Board → Type 0) (g : IsKept R) where
   piece_handled (garbled size) routes k at until old new same = same_of old new same
   piece_handled (good body) routes k at until old new handles = body_handled (connection_at old.desk.board k).session routes k body at until old new handles
 
-  next_handled : (routes : Routes) (k at until : ℕ) (old new : Sessions) → HandlesNext routes k at until old new → KeptOf old new
+  pub next_handled : (routes : Routes) (k at until : ℕ) (old new : Sessions) → HandlesNext routes k at until old new → KeptOf old new
   next_handled routes k at until old new is =
       g.further old.desk.board is.given.board new.desk.board (g.happens (gives k) old.desk.board is.given.board refl is.gives)
       (piece_handled is.piece routes k at until (sessions_of is.given old.unkept) new is.handles)
@@ -195,7 +195,7 @@ module _ (R : Board → Board → Type 0) (g : IsKept R) where
   parted_by : (k : ℕ) (cause : Cause) (old new : Sessions) → PartsBy k cause old new → KeptOf old new
   parted_by k cause old new is = parted (connection_at old.desk.board k).session k cause old.desk.board new.desk.board is.parts
 
-  read_as : (answer : WireGot) (routes : Routes) (k : ℕ) (buffer : List ℕ) (at until : ℕ) (old new : Sessions) → ReadsAs answer routes k buffer at until old new → KeptOf old new
+  pub read_as : (answer : WireGot) (routes : Routes) (k : ℕ) (buffer : List ℕ) (at until : ℕ) (old new : Sessions) → ReadsAs answer routes k buffer at until old new → KeptOf old new
   read_as (got.Bytes n) routes k buffer at until old new is =
       g.further old.desk.board is.taken.board new.desk.board (g.happens (takes k _) old.desk.board is.taken.board refl is.takes) (all_handled routes k at until (sessions_of is.taken old.unkept) new is.handles)
   read_as got.End routes k buffer at until old new is = parted_by k End old new is
@@ -235,7 +235,7 @@ module _ (R : Board → Board → Type 0) (g : IsKept R) where
       (g.further one.prepared one.wrote.board last (written_some k is.written.bytes one.prepared one.wrote.board one.writes)
       (parted_if_needed (cause_behind is.written.stop (connection_at one.wrote.board k)) k one.wrote.board last one.ends))
 
-  written_in_turn : (places : List ℕ) (count : ℕ) (old new : WrittenSoFar) → WritesInTurn places count old new → KeptOf old.sessions new.sessions
+  pub written_in_turn : (places : List ℕ) (count : ℕ) (old new : WrittenSoFar) → WritesInTurn places count old new → KeptOf old.sessions new.sessions
   written_in_turn places count old new steps =
       each_in_turn (λ i. WritesAt (slice_index_or places i 0)) (λ a b. KeptOf a.sessions b.sessions) (λ so_far. g.itself so_far.sessions.desk.board)
       (λ a b c. g.further a.sessions.desk.board b.sessions.desk.board c.sessions.desk.board) (λ i a b. written_at (slice_index_or places i 0) a b) count old new steps
@@ -303,6 +303,9 @@ module _ (R : Board → Board → Type 0) (g : IsKept R) where
       engine_kept old new (unchanged old.sessions.desk.board new.sessions.desk.board is.board)
       (ap (λ (e : Engine). e.accepted) is.rest) (ap (λ (e : Engine). e.connections) is.rest) (ap (λ (e : Engine). e.dialler) is.rest)
 
+  pub all_published : (count : ℕ) (old new : Engine) → InTurn PublishesSession count old new → EngineKeeps old new
+  all_published count old new publishes = engine_in_turn PublishesSession count old new session_published publishes
+
   all_written : (links_old links_new : ℕ → Link) (old new : Engine) (bytes : ℕ) → WritesAll links_old links_new old new bytes → EngineKeeps old new
   all_written links_old links_new old new bytes is =
       let places = open_places old.lines in
@@ -316,7 +319,7 @@ module _ (R : Board → Board → Type 0) (g : IsKept R) where
   pub turn_given : (old new : AtWire) (taken : Taken) (turn : Turn) → GivesTurn old new taken turn → EngineKeeps old.engine new.engine
   turn_given old new taken turn is =
       let all = is.gives in
-      engine_further old.engine all.published new.engine (engine_in_turn PublishesSession (length old.engine.sessions.desk.board.sessions) old.engine all.published session_published all.publishes)
+      engine_further old.engine all.published new.engine (all_published (length old.engine.sessions.desk.board.sessions) old.engine all.published all.publishes)
       (all_written old.links new.links all.published new.engine turn.written all.writes)
 
   module _ (serves : (library at until : ℕ) (old new : LibraryDesk) (turn : LibTurn) → Serves library at until old new turn → RunsFor at old.desk.board new.desk.board) where
@@ -327,7 +330,7 @@ module _ (R : Board → Board → Type 0) (g : IsKept R) where
         engine_kept old.engine new.engine (reached runs.happenings old.engine.sessions.desk.board new.engine.sessions.desk.board (All-weaker (IsOfLibraries at) IsQuiet (library_quiet at) runs.happenings runs.all) runs.reaches)
         (ap (λ (e : Engine). e.accepted) is.rest) (ap (λ (e : Engine). e.connections) is.rest) (ap (λ (e : Engine). e.dialler) is.rest)
 
-    all_served : (count : ℕ) (old new : Serving) → InTurn (λ i. ServesOne (i + 1)) count old new → EngineKeeps old.engine new.engine
+    pub all_served : (count : ℕ) (old new : Serving) → InTurn (λ i. ServesOne (i + 1)) count old new → EngineKeeps old.engine new.engine
     all_served count old new served =
         each_in_turn (λ i. ServesOne (i + 1)) (λ (a b : Serving). EngineKeeps a.engine b.engine) (λ a. engine_itself a.engine)
         (λ a b c. engine_further a.engine b.engine c.engine) (λ i a b. one_served (i + 1) a b) count old new served

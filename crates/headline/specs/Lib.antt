@@ -7,3 +7,5 @@ pub mod Finished
 pub mod Within
 pub mod Dialled
 pub mod LogonsFirst
+pub mod InPart
+pub mod WrongInPart

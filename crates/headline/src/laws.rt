@@ -12,9 +12,11 @@ ghost use Rattle.gate_io.specs.Wire.{Door, Link};
 ghost use Rattle.headline.specs.Ends.{AllEndedWhole};
 ghost use Rattle.headline.specs.Finished.{IsFinished};
 ghost use Rattle.headline.specs.Headline.{Headline};
+ghost use Rattle.headline.specs.InPart.{HeadlineInPart};
 ghost use Rattle.headline.specs.LogonsFirst.{LogonsComeFirst};
 ghost use Rattle.headline.specs.Numbering.{AreInOrder, IsInOrder};
 ghost use Rattle.headline.specs.Wrong.{AnswersUnbound, BeatsBeforeItsLogon, BindsNone, BindsOneTwice, BindsTwoAtOnce, CountsWhatNeverCame, GivesBackByItself, GivesBackWhatRuns, HasTwoOwners, IsRefuted, IsRepliedToTwice, LogsNoArrival, LogsNoNumber, LosesByNoWord, ReadsElsewhere, SendsByAnotherLease, ReadsPastEnd, SendsBeforeItsLogon, SendsForAnother, ShareOneConnection, SkipsNumbers, StandsWhereItWasLeft, StraysAtHome, TakesBackFromNobody, TakesMoreThanItsLogon, WritesWhatIsNotTold};
+ghost use Rattle.headline.specs.WrongInPart.{BindsNoConnection, HasOtherNames, IsRefutedInPart, MissesSession, StopsTwice, TellsWhatNeverCame};
 ghost use Rattle.lease_core.specs.declared.entry.Entry.{Entry};
 ghost use Rattle.lease_desk.specs.declared.desk.LeaseDesk.{LeaseDesk};
 ghost use Rattle.library_desk.specs.declared.shared.Shared.{Shared};
@@ -22,17 +24,19 @@ ghost use Rattle.run_laws.specs.Accounted.{IsAccountedRun};
 ghost use Rattle.run_report.specs.declared.records.RunRecord.{RunRecord};
 ghost use Rattle.script_run.specs.Means.{Means, StartsEngineOf, StartsRun};
 ghost use Rattle.script_run.specs.Runs.{Carries, CarriesOut};
+ghost use Rattle.script_run.specs.Stops.{MeansInPart};
 ghost use Rattle.script_run.specs.declared.run.Run.{Run};
 ghost use Rattle.script_text.specs.declared.steps.Script.{Script};
 ghost use Rattle.script_text.specs.declared.steps.Step.{Step};
 ghost use Rattle.serve_laws.specs.Served.{AnyReadings};
 ghost use Rattle.serve_run.specs.Drives.{Drive, DrivesFor};
 ghost use Rattle.serve_run.specs.Serves.{Serves};
+ghost use Rattle.serve_run.specs.Stops.{ServesInPart};
 ghost use Rattle.session_core.specs.State.{State};
 
 use engine_laws::laws::{
     accounts_are_whole, happenings_are_accounted_for, lines_are_accounted_for,
-    sessions_are_accounted_for, steps_are_accounted_for,
+    sessions_are_accounted_for, steps_are_accounted_for, stops_are_accounted_for,
 };
 use lease_core::laws::{
     entries_decide_one_by_one, holdings_adjoin, lines_tell_deeds, one_owner_at_a_time,
@@ -181,4 +185,33 @@ pub fn wrong_records_are_refuted()
     ensures by_itself { IsRefuted GivesBackByItself }
     ensures not_shown { IsRefuted LosesByNoWord }
     ensures at_home { IsRefuted StraysAtHome }
+{}
+
+/// What holds of the record of a run that had begun and for which memory was wanting later: of a script that is carried out,
+/// and of one that is served, over a wire at which nothing had come before.
+pub fn headlines_hold_in_part()
+    ensures means { (script : Script) (left : RunRecord) → MeansInPart script left → IsConfig script.config → HeadlineInPart script.config left }
+    ensures serves { (script : Script) (turns : ℕ) (wide : Bool) (old : Door) (old_links : ℕ → Link) (left : RunRecord) → ServesInPart script turns wide old old_links left → IsConfig script.config
+        → old.accepted ≡ 0 → old.dialled ≡ 0 → HeadlineInPart script.config left }
+{
+    boards_go_on();
+    serving_happens();
+    happenings_are_accounted_for();
+    sessions_are_accounted_for();
+    texts_are_taken();
+    engines_are_accounted_for();
+    runs_go_on();
+    runs_are_accounted_for();
+    drives_are_accounted_for();
+    stops_are_accounted_for();
+}
+
+/// The headline in part pins down the records that are left where memory was wanting: each of these families of wrong ones
+/// is refuted.
+pub fn wrong_records_are_refuted_in_part()
+    ensures missing { IsRefutedInPart MissesSession }
+    ensures other_names { IsRefutedInPart HasOtherNames }
+    ensures no_connection { IsRefutedInPart (λ config left. BindsNoConnection left) }
+    ensures never_came { IsRefutedInPart (λ config left. TellsWhatNeverCame left) }
+    ensures twice { IsRefutedInPart StopsTwice }
 {}
