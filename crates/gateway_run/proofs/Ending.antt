@@ -1,5 +1,5 @@
 -- What a replay leaves, by how the writing of its text ended.
-use Rattle.std.proofs.Common.{◌≡◌, ℕ, List, Option, subst}
+use Rattle.std.proofs.Common.{◌≡◌, inr, ℕ, List, Option, subst}
 use Rattle.gate_io.specs.Sink.{HasTakenPrefix}
 use Rattle.std.specs.List.{All}
 use Rattle.engine_end.specs.Records.{HasLawfulJournal}
@@ -13,7 +13,7 @@ pub leaves_by : (Is : Script → Type 0) (text : List ℕ) (old new : Option (Li
     → Writes text old new risen same ended → Leaves Is ended run
 leaves_by Is text old new risen same status.Ok run out journals writes = out
 leaves_by Is text old new risen same status.WriteFault run out journals writes = out
-leaves_by Is text old new risen same status.OutOfMemory run out journals writes = journals
+leaves_by Is text old new risen same status.OutOfMemory run out journals writes = record { lawful = journals; is = inr (inr out) }
 leaves_by Is text old new risen same status.Usage run out journals writes = absurd writes
 leaves_by Is text old new risen same status.ReadFault run out journals writes = absurd writes
 leaves_by Is text old new risen same (status.ScriptFault line kind) run out journals writes = absurd writes

@@ -1,5 +1,5 @@
 -- How a replay ends.
-use Rattle.std.specs.Prelude.{◌≡◌, ℕ, Bool, false, List, [], Option, IfSome, Ok, Err}
+use Rattle.std.specs.Prelude.{◌≡◌, ◌⊎◌, ℕ, Bool, false, List, Option, IfSome, Ok, Err}
 use Rattle.std.specs.List.{All}
 use Rattle.command_words.specs.declared.words.Chosen.{Chosen}
 use Rattle.command_words.specs.declared.words.Chosen.TheVariants as chosen
@@ -13,6 +13,7 @@ use Rattle.gateway_run.specs.declared.writing.Printed.TheVariants as printed
 use Rattle.gateway_run.specs.declared.statuses.Status.{Status}
 use Rattle.gateway_run.specs.declared.statuses.Status.TheVariants as status
 use Rattle.headline.specs.Headline.{Headline}
+use Rattle.headline.specs.InPart.{HeadlineInPart}
 use Rattle.lease_core.specs.Holdings.{AreAdjoining, holdings_of}
 use Rattle.lease_core.specs.State.{state_of}
 use Rattle.run_laws.specs.Records.{IsAccountedRecord}
@@ -20,6 +21,7 @@ use Rattle.run_report.specs.Report.{report_of}
 use Rattle.run_report.specs.Summary.{summary_of}
 use Rattle.run_report.specs.declared.records.RunRecord.{RunRecord}
 use Rattle.script_run.specs.Means.{Means}
+use Rattle.script_run.specs.Stops.{MeansInPart, no_run}
 use Rattle.script_text.specs.Meaning.{script_of}
 use Rattle.session_book.specs.declared.reads.SessionRecord.{SessionRecord}
 use Rattle.script_text.specs.declared.kinds.ScriptError.TheVariants.{Fault}
@@ -46,10 +48,6 @@ text_for (chosen.Replay path) run = report_of run
 text_for (chosen.Drill n) run = summary_of n run
 text_for (chosen.Serve path address turns) run = report_of run
 
--- what a run leaves that did not begin
-abbrev pub no_run : RunRecord
-no_run = record { engine = record { sessions = []; connections = []; strays = []; accepted = 0; added = [] }; libraries = [] }
-
 -- What the owners of a session held, by its journal's entries alone, cuts the messages that the journal counts into intervals: the engine's first, from 0 on,
 -- each where the one before ended, and the last up to the end.
 abbrev pub HasAdjoiningHoldings : SessionRecord → Type 0
@@ -64,11 +62,23 @@ pub record IsCarriedOut (Is : Script → Type 0) (run : RunRecord) : Type 0 wher
   pub accounted : IsAccountedRecord script run
   pub headline : Headline script.config (link_at meant.leads.last.wire) run
 
--- What a replay leaves that ends so: on Ok, and where its report can't be written, what the script means. Without memory each journal is lawful. Else nothing was carried out.
+-- The record is what is left of a script that is one of these, and for which memory was wanting once its run had begun.
+pub record IsCarriedOutInPart (Is : Script → Type 0) (run : RunRecord) : Type 0 where
+  pub script : Script
+  pub is : Is script
+  pub meant : MeansInPart script run
+  pub headline : HeadlineInPart script.config run
+
+-- Without memory no run began; or one did, and is carried out in part, or wholly where there was none for the text alone. Each journal is lawful.
+pub record LeavesWhatThereWas (Is : Script → Type 0) (run : RunRecord) : Type 0 where
+  pub lawful : All HasLawfulJournal run.engine.sessions
+  pub is : (run ≡ no_run) ⊎ (IsCarriedOutInPart Is run ⊎ IsCarriedOut Is run)
+
+-- What a replay leaves that ends so: on Ok, and where its report can't be written, what the script means. Without memory it is what there was. Else nothing was carried out.
 abbrev pub Leaves : (Script → Type 0) → Status → RunRecord → Type 0
 Leaves Is status.Ok run = IsCarriedOut Is run
 Leaves Is status.WriteFault run = IsCarriedOut Is run
-Leaves Is status.OutOfMemory run = All HasLawfulJournal run.engine.sessions
+Leaves Is status.OutOfMemory run = LeavesWhatThereWas Is run
 Leaves Is status.Usage run = run ≡ no_run
 Leaves Is status.ReadFault run = run ≡ no_run
 Leaves Is (status.ScriptFault line kind) run = run ≡ no_run

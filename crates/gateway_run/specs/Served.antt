@@ -1,5 +1,5 @@
 -- How serving ends.
-use Rattle.std.specs.Prelude.{◌≡◌, ℕ, Bool, List, Option, None, Some}
+use Rattle.std.specs.Prelude.{◌≡◌, ◌⊎◌, ℕ, Bool, List, Option, None, Some}
 use Rattle.std.specs.List.{All}
 use Rattle.clock_laws.specs.Kept.{KeepsTime}
 use Rattle.engine_end.specs.Records.{HasLawfulJournal}
@@ -7,14 +7,16 @@ use Rattle.gate_io.specs.Sink.{HasTaken, HasTakenPrefix}
 use Rattle.gate_io.specs.Wire.{Door, Link}
 use Rattle.gate_io.specs.declared.wires.Listened.{Listened}
 use Rattle.gate_io.specs.declared.wires.Listened.TheVariants.{Ready}
-use Rattle.gateway_run.specs.Outcome.{no_run}
 use Rattle.gateway_run.specs.declared.statuses.Status.{Status}
 use Rattle.gateway_run.specs.declared.statuses.Status.TheVariants as status
 use Rattle.headline.specs.Finished.{IsFinished}
 use Rattle.headline.specs.Headline.{Headline}
+use Rattle.headline.specs.InPart.{HeadlineInPart}
 use Rattle.run_report.specs.declared.records.RunRecord.{RunRecord}
 use Rattle.script_text.specs.declared.steps.Script.{Script}
+use Rattle.script_run.specs.Stops.{no_run}
 use Rattle.serve_run.specs.Serves.{Serves}
+use Rattle.serve_run.specs.Stops.{ServesInPart}
 
 -- A wire came to listen at this address, and tells this of its connections.
 pub record ListensAt {W : Type 0} (gives : W → List ℕ → Listened → W → Type 0) (link : W → ℕ → Link) (old : W) (address : List ℕ) (links : ℕ → Link) : Type 0 where
@@ -44,17 +46,36 @@ pub record IsServed (Is : Script → Type 0) (turns : ℕ) (Serving : Script →
   pub is : Is script
   pub serves : Serving script turns run spent
 
+-- The record is what is left of a script that is one of these, for which memory was wanting once it had begun to be served over a wire that told this.
+pub record IsServedInPart (Is : Script → Type 0) (turns : ℕ) (wide : Bool) (old : Door) (run : RunRecord) : Type 0 where
+  pub script : Script
+  pub is : Is script
+  pub links : ℕ → Link
+  pub serves : ServesInPart script turns wide old links run
+  pub headline : HeadlineInPart script.config run
+
+-- nothing was accepted, dialled, read or written
+pub record IsUnasked (old new : Door) (old_links new_links : ℕ → Link) : Type 0 where
+  pub door : new ≡ old
+  pub links : (c : ℕ) → new_links c ≡ old_links c
+
+-- Without memory nothing was served, and nothing asked of the wire; or the script was served in part, or to its end where there was none for the report alone. Each journal is
+-- lawful.
+pub record LeavesWhatWasServed (Is : Script → Type 0) (turns : ℕ) (Serving : Script → ℕ → RunRecord → Option ℕ → Type 0) (InPart : RunRecord → Type 0) (Unasked : Type 0) (run : RunRecord) : Type 0 where
+  pub lawful : All HasLawfulJournal run.engine.sessions
+  pub is : ((run ≡ no_run) × Unasked) ⊎ (InPart run ⊎ ((spent : Option ℕ) × IsServed Is turns Serving run spent))
+
 -- What serving leaves that ends so: on Ok no turns were spent, on TurnsSpent those of the library that it names, and where the report can't be written either. Without
--- memory each journal is lawful. Else nothing was served.
-abbrev pub ServesSo : (Script → Type 0) → ℕ → (Script → ℕ → RunRecord → Option ℕ → Type 0) → Status → RunRecord → Type 0
-ServesSo Is turns Serving status.Ok run = IsServed Is turns Serving run None
-ServesSo Is turns Serving (status.TurnsSpent spent library) run = (spent ≡ turns) × IsServed Is turns Serving run (Some library)
-ServesSo Is turns Serving status.WriteFault run = (spent : Option ℕ) × IsServed Is turns Serving run spent
-ServesSo Is turns Serving status.OutOfMemory run = All HasLawfulJournal run.engine.sessions
-ServesSo Is turns Serving status.Usage run = run ≡ no_run
-ServesSo Is turns Serving status.ReadFault run = run ≡ no_run
-ServesSo Is turns Serving (status.ScriptFault line kind) run = run ≡ no_run
-ServesSo Is turns Serving status.ListenFault run = run ≡ no_run
+-- memory it is what there was. Else nothing was served.
+abbrev pub ServesSo : (Script → Type 0) → ℕ → (Script → ℕ → RunRecord → Option ℕ → Type 0) → (RunRecord → Type 0) → Type 0 → Status → RunRecord → Type 0
+ServesSo Is turns Serving InPart Unasked status.Ok run = IsServed Is turns Serving run None
+ServesSo Is turns Serving InPart Unasked (status.TurnsSpent spent library) run = (spent ≡ turns) × IsServed Is turns Serving run (Some library)
+ServesSo Is turns Serving InPart Unasked status.WriteFault run = (spent : Option ℕ) × IsServed Is turns Serving run spent
+ServesSo Is turns Serving InPart Unasked status.OutOfMemory run = LeavesWhatWasServed Is turns Serving InPart Unasked run
+ServesSo Is turns Serving InPart Unasked status.Usage run = run ≡ no_run
+ServesSo Is turns Serving InPart Unasked status.ReadFault run = run ≡ no_run
+ServesSo Is turns Serving InPart Unasked (status.ScriptFault line kind) run = run ≡ no_run
+ServesSo Is turns Serving InPart Unasked status.ListenFault run = run ≡ no_run
 
 -- turns were spent
 abbrev pub IsSpent : Status → Type 0

@@ -10,9 +10,10 @@ ghost use Rattle.engine_end.specs.Records.{HasLawfulJournal};
 ghost use Rattle.gate_io.specs.Counts.{HasRisen};
 ghost use Rattle.gate_io.specs.Sink.{HasTaken, HasTakenPrefix};
 ghost use Rattle.gate_io.specs.Source.{GaveWithin};
-ghost use Rattle.gateway_run.specs.Outcome.{EndsSo, HasAdjoiningHoldings, IsScriptOf, IsTextOf, Leaves, RefusesSource, WritesNothing, no_run, text_for};
+ghost use Rattle.gateway_run.specs.Outcome.{EndsSo, HasAdjoiningHoldings, IsScriptOf, IsTextOf, Leaves, RefusesSource, WritesNothing, text_for};
 ghost use Rattle.run_report.specs.Report.{report_of};
 ghost use Rattle.run_report.specs.Summary.{summary_of};
+ghost use Rattle.script_run.specs.Stops.{no_run};
 ghost use Rattle.script_text.specs.Meaning.{script_of};
 ghost use Rattle.script_text.specs.declared.kinds.ScriptKind.{ScriptKind};
 ghost use Rattle.script_text.specs.declared.steps.Script.{Script as TheScript};
@@ -26,7 +27,7 @@ use command_words::{Chosen, WordsError, command_of};
 use drill_maker::drill;
 use drill_maker::laws::drills_are_lawful;
 use gate_io::{NoMemory, Sink, Source};
-use headline::laws::headlines_hold;
+use headline::laws::{headlines_hold, headlines_hold_in_part};
 use run_laws::laws::scripts_are_accounted_for;
 use run_report::RunRecord;
 use script_run::carry_out;
@@ -102,6 +103,7 @@ fn replay_script<So: Source, Si: Sink>(
     };
     scripts_are_accounted_for();
     headlines_hold();
+    headlines_hold_in_part();
     match carry_out(alloc, script) {
         Ok(run) => {
             let status = write(alloc, &run, Printed::Report, out);
@@ -121,6 +123,7 @@ fn replay_drill<Si: Sink>(alloc: Global, n: u32, out: &mut Si) -> (Status, RunRe
     drills_are_lawful();
     scripts_are_accounted_for();
     headlines_hold();
+    headlines_hold_in_part();
     let script = match drill(alloc, n) {
         Ok(script) => script,
         Err(NoMemory::OutOfMemory) => return (Status::OutOfMemory, no_record(alloc)),

@@ -8,8 +8,9 @@ ghost use Rattle.gate_io.specs.Clock.{TakesReadings};
 ghost use Rattle.gate_io.specs.Counts.{HasRisen};
 ghost use Rattle.gate_io.specs.Sink.{HasTaken, HasTakenPrefix};
 ghost use Rattle.gate_io.specs.Source.{GaveWithin};
-ghost use Rattle.gateway_run.specs.Outcome.{HasAdjoiningHoldings, IsTextOf, RefusesSource, WritesNothing, no_run};
-ghost use Rattle.gateway_run.specs.Served.{Anyhow, EndsServing, IsSpent, ListensAt, ServesSo, WireServes, with_spent};
+ghost use Rattle.gateway_run.specs.Outcome.{HasAdjoiningHoldings, IsTextOf, RefusesSource, WritesNothing};
+ghost use Rattle.script_run.specs.Stops.{no_run};
+ghost use Rattle.gateway_run.specs.Served.{Anyhow, EndsServing, IsServedInPart, IsSpent, IsUnasked, ListensAt, ServesSo, WireServes, with_spent};
 ghost use Rattle.run_report.specs.Report.{report_of};
 ghost use Rattle.script_text.specs.Lawful.{IsLawful};
 ghost use Rattle.script_text.specs.Meaning.{script_of};
@@ -24,7 +25,7 @@ use clock_laws::laws::silences_are_waited_for;
 use command_words::laws::words_give_one;
 use command_words::{Chosen, WordsError, command_of};
 use gate_io::{Clock, Dial, Gate, Listened, NoMemory, Sink, Source};
-use headline::laws::served_headlines_hold;
+use headline::laws::{headlines_hold_in_part, served_headlines_hold};
 use run_report::RunRecord;
 use script_text::{LONGEST_SCRIPT, Script, ScriptError};
 use serve_run::{Served, serve_script};
@@ -62,7 +63,7 @@ pub fn serve<
     // The wire came to listen at the address; the record is what engine and libraries left that served the script, side by
     // side; and the headline holds of it.
     ensures served { (path address : List ℕ) (turns : ℕ) → Gives (map string_bytes words.now) (Chosen.Serve path address turns)
-        → ServesSo (IsTextOf true (So.left script.old)) turns (WireServes (ListensAt W.listen_gives W.link wire.old address) (G.open_wide gate.now) (λ readings. TakesReadings C.has_read clock.old readings clock.new) (W.door wire.old) (W.door wire.new) (W.link wire.old) (W.link wire.new)) result.0 result.1 }
+        → ServesSo (IsTextOf true (So.left script.old)) turns (WireServes (ListensAt W.listen_gives W.link wire.old address) (G.open_wide gate.now) (λ readings. TakesReadings C.has_read clock.old readings clock.new) (W.door wire.old) (W.door wire.new) (W.link wire.old) (W.link wire.new)) (IsServedInPart (IsTextOf true (So.left script.old)) turns (G.open_wide gate.now) (W.door wire.old)) (IsUnasked (W.door wire.old) (W.door wire.new) (W.link wire.old) (W.link wire.new)) result.0 result.1 }
     // The sink took the report of that record, also where turns were spent.
     ensures reported { result.0 ≡ Status.Ok → HasTaken (Si.held out.old) (report_of result.1) (Si.held out.new) }
     ensures reported_spent { IsSpent result.0 → HasTaken (Si.held out.old) (report_of result.1) (Si.held out.new) }
@@ -135,7 +136,7 @@ fn serve_at<
     requires turns { 1 ≤ turns }
     requires accepted { (W.door wire.old).accepted ≡ 0 }
     requires dialled { (W.door wire.old).dialled ≡ 0 }
-    ensures served { ServesSo (IsTextOf true (So.left source.old)) turns (WireServes (ListensAt W.listen_gives W.link wire.old address.now) (G.open_wide gate.now) (λ readings. TakesReadings C.has_read clock.old readings clock.new) (W.door wire.old) (W.door wire.new) (W.link wire.old) (W.link wire.new)) result.0 result.1 }
+    ensures served { ServesSo (IsTextOf true (So.left source.old)) turns (WireServes (ListensAt W.listen_gives W.link wire.old address.now) (G.open_wide gate.now) (λ readings. TakesReadings C.has_read clock.old readings clock.new) (W.door wire.old) (W.door wire.new) (W.link wire.old) (W.link wire.new)) (IsServedInPart (IsTextOf true (So.left source.old)) turns (G.open_wide gate.now) (W.door wire.old)) (IsUnasked (W.door wire.old) (W.door wire.new) (W.link wire.old) (W.link wire.new)) result.0 result.1 }
     ensures ends { EndsServing (RefusesSource true (So.left source.old) (So.faults source.old) (So.faults source.new)) (HasRisen (W.door wire.old).listen_faults (W.door wire.new).listen_faults) (report_of result.1) (Si.held out.old) (Si.held out.new) (HasRisen (Si.faults out.old) (Si.faults out.new)) (out.new ≡ out.old) result.0 }
     ensures read_fault_within { result.0 ≡ Status.ReadFault → GaveWithin (So.left source.old) LONGEST_SCRIPT (So.left source.new) }
     ensures journals { All HasLawfulJournal result.1.engine.sessions }
@@ -166,11 +167,12 @@ fn serve_out<R: Threads + Sync, W: Dial + Send, C: Clock + Send, G: Gate + Sync,
     requires turns { 1 ≤ turns }
     requires accepted { (W.door wire.old).accepted ≡ 0 }
     requires dialled { (W.door wire.old).dialled ≡ 0 }
-    ensures served { ServesSo (λ said. said ≡ script) turns (WireServes Anyhow (G.open_wide gate.now) (λ readings. TakesReadings C.has_read clock.old readings clock.new) (W.door wire.old) (W.door wire.new) (W.link wire.old) (W.link wire.new)) result.0 result.1 }
+    ensures served { ServesSo (λ said. said ≡ script) turns (WireServes Anyhow (G.open_wide gate.now) (λ readings. TakesReadings C.has_read clock.old readings clock.new) (W.door wire.old) (W.door wire.new) (W.link wire.old) (W.link wire.new)) (IsServedInPart (λ said. said ≡ script) turns (G.open_wide gate.now) (W.door wire.old)) (IsUnasked (W.door wire.old) (W.door wire.new) (W.link wire.old) (W.link wire.new)) result.0 result.1 }
     ensures ends { EndsServing (λ _. ⊥) ⊥ (report_of result.1) (Si.held out.old) (Si.held out.new) (HasRisen (Si.faults out.old) (Si.faults out.new)) (out.new ≡ out.old) result.0 }
     ensures journals { All HasLawfulJournal result.1.engine.sessions }
 {
     served_headlines_hold();
+    headlines_hold_in_part();
     silences_are_waited_for();
     match serve_script(rt, alloc, script, turns, wire, clock, gate) {
         Ok(Served { run, spent }) => {
