@@ -9,12 +9,15 @@
 
 mod draw;
 mod drowsy;
+mod faults;
+mod faulty;
 mod running;
 mod scripts;
 mod traffic;
 
 use anyhow::{Context, Result, bail};
 use drowsy::DrowsyGate;
+use faulty::Fault;
 use gate_io::RealClock;
 use journal_audit::Verdict;
 use running::run;
@@ -22,6 +25,9 @@ use std::env;
 
 /// How many runs there are where no word says so.
 const RUNS: u64 = 10;
+
+/// How many of a kind are let fail at most, one in each run.
+const MOST: u64 = 400;
 
 /// A word as a number, or another number where there is none.
 fn number(word: Option<String>, other: u64) -> Result<u64> {
@@ -31,10 +37,41 @@ fn number(word: Option<String>, other: u64) -> Result<u64> {
     }
 }
 
+/// Whether a word asks for faults.
+fn is_faults(word: &Option<String>) -> bool {
+    match word {
+        Some(word) => word.as_str() == "faults",
+        None => false,
+    }
+}
+
 fn main(rt: HostRuntime) -> Result<()> {
     let mut words = env::args(&rt)?;
     let _program = words.next();
-    let runs = number(words.next(), RUNS)?;
+    let first = words.next();
+    if is_faults(&first) {
+        let mut wrong = 0u64;
+        for fault in Fault::ALL {
+            for before in 0..MOST {
+                let mut clock = RealClock::new(rt);
+                let gate = DrowsyGate::new(rt, before);
+                let came = faults::run(&rt, rt.alloc(), fault, before, &mut clock, &gate)?;
+                if !came.right {
+                    println!(rt; "{fault:?} {before} ends wrong")?;
+                    wrong = wrong.saturating_add(1);
+                }
+                if !came.failed {
+                    println!(rt; "{fault:?}: {before} failed, one in each run")?;
+                    break;
+                }
+            }
+        }
+        if wrong > 0 {
+            bail!("{wrong} runs ended wrong");
+        }
+        return Ok(());
+    }
+    let runs = number(first, RUNS)?;
     let first = number(words.next(), 1)?;
     let mut wrong = 0u64;
     for more in 0..runs {
