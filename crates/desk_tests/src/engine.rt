@@ -5,9 +5,9 @@ ghost use Rattle.desk_tests.specs.Outset.{IsOpen};
 ghost use Rattle.desk_tests.specs.Running.{IsRunning};
 ghost use Rattle.switchboard.specs.Board.{connection_at};
 
+use crate::asks::Ask;
 use crate::counterparty::is_new;
 use crate::engine_desk::EngineDesk;
-use crate::steps::Ask;
 use gate_io::{LAST_MOMENT, NoMemory};
 use lease_core::laws::lines_tell_the_owner;
 use lease_core::{Record, Reply};
@@ -115,16 +115,15 @@ pub fn serve(
     Ok(Some(turn))
 }
 
-/// A session hears the clock. Says whether the session is there, and its connection ended so.
+/// A session hears the clock, if it is there. Answers why its connection ended, if it did.
 pub fn tick(
     alloc: Global,
     shared: &Shared,
     desk: &mut EngineDesk,
     s: u16,
-    end: Option<Cause>,
     at: u64,
     until: u64,
-) -> Result<bool, NoMemory>
+) -> Result<Option<Option<Cause>>, NoMemory>
     requires running { IsRunning shared.now desk.old }
     requires moment { at ≤ LAST_MOMENT }
     ensures running { OnOk result (IsRunning shared.now desk.new) }
@@ -132,7 +131,7 @@ pub fn tick(
     sessions_proceed();
     cursors_stay();
     if usize::from(s) >= desk.libraries.desk.board.sessions() {
-        return Ok(false);
+        return Ok(None);
     }
     let cause = session_desk::tick(
         alloc,
@@ -142,7 +141,7 @@ pub fn tick(
         at,
         until,
     )?;
-    Ok(cause == end)
+    Ok(Some(cause))
 }
 
 /// The session that dials is bound to the next connection, which has this number. Says whether there is

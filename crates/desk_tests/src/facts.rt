@@ -1,100 +1,115 @@
-//! What can be asked of the sessions and connections, with what is so.
+//! What can be asked of the sessions and connections.
 
-use crate::texts::{T, is_text};
+ghost use Rattle.std.specs.Prelude.{◌<◌, length};
+
+use crate::finding::{said, shown};
+use crate::texts::{T, legible};
+use connection_core::Connection;
 use gate_io::NoMemory;
-use lease_core::Entry;
-use library_desk::{LibraryDesk, Stray};
-use session_core::Cause;
+use library_desk::LibraryDesk;
+use row_text::Words;
+use session_book::SessionBook;
 use std::alloc::Global;
 use switchboard::Switchboard;
 
-/// What is so.
-#[derive(Clone, Copy, Debug)]
+/// What is asked. Sessions and connections are named by their places.
+#[derive(Clone, Copy)]
 pub enum Fact {
-    /// The session is bound to the connection at this place.
-    Place(usize, Option<usize>),
-    /// The connection names this session, and has this cause.
-    Connection(usize, Option<u16>, Option<Cause>),
-    /// So many items wait on the connection.
-    Waits(usize, u64),
-    /// A library has the session by this lease.
-    Owner(usize, u8, u32),
-    /// The session waits for this library, until so many milliseconds past the morning's beginning.
-    Reserved(usize, Option<(u8, u64)>),
-    /// So many messages were accepted.
-    Inbound(usize, u64),
-    /// The body with this number of the session's first series, its moment, and how many there are.
-    Outbound(usize, u64, u64, u64, &'static str),
-    /// These requests were for sessions that aren't there.
-    Strays(&'static [Stray]),
+    /// `connection K`: which session the connection names, and why it ended.
+    Connection(usize),
+    /// `waits K`: how many items wait on the connection.
+    Waits(usize),
+    Session(usize, SessionFact),
+    /// `strays`: the requests that were for sessions that aren't there.
+    Strays,
 }
 
-/// Whether it is so.
-pub fn is_so(alloc: Global, desk: &LibraryDesk, fact: Fact) -> Result<bool, NoMemory> {
+/// What is asked of a session.
+#[derive(Clone, Copy)]
+pub enum SessionFact {
+    /// `place S`: the place of the connection to which it is bound.
+    Place,
+    /// `owner S`: which library has it, or 0, and by which lease, which is the last one.
+    Owner,
+    /// `reserved S`: for which library it waits, until so many milliseconds past the morning's beginning.
+    Reserved,
+    /// `inbound S`: how many messages were accepted.
+    Inbound,
+    /// `outbound S NUMBER`: the body with this number of its first series, with its moment, in milliseconds
+    /// past the morning's beginning, and how many there are.
+    Outbound(u64),
+}
+
+pub fn fact_of(name: &str, words: &mut Words<'_>) -> Option<Fact> {
+    Some(match name {
+        "connection" => Fact::Connection(words.place()?),
+        "waits" => Fact::Waits(words.place()?),
+        "strays" => Fact::Strays,
+        "place" => Fact::Session(words.place()?, SessionFact::Place),
+        "owner" => Fact::Session(words.place()?, SessionFact::Owner),
+        "reserved" => Fact::Session(words.place()?, SessionFact::Reserved),
+        "inbound" => Fact::Session(words.place()?, SessionFact::Inbound),
+        "outbound" => Fact::Session(words.place()?, SessionFact::Outbound(words.number()?)),
+        _ => return None,
+    })
+}
+
+/// What is so.
+pub fn what_is(alloc: Global, desk: &LibraryDesk, fact: Fact) -> Result<Option<String>, NoMemory> {
     let board = &desk.desk.board;
-    Ok(match fact {
-        Fact::Place(s, place) => s < board.sessions() && board.place(s) == place,
-        Fact::Connection(k, session, cause) => {
-            k < board.connections()
-                && board.connection(k).session() == session
-                && board.connection(k).cause() == cause
+    match fact {
+        Fact::Connection(k) if k < board.connections() => connection(alloc, board.connection(k)),
+        Fact::Waits(k) if k < board.connections() => {
+            shown(alloc, &board.connection(k).waiting_items())
         }
-        Fact::Waits(k, count) => {
-            k < board.connections() && board.connection(k).waiting_items() == count
-        }
-        Fact::Strays(strays) => desk.strays.as_slice() == strays,
-        _ => return is_so_of_a_session(alloc, board, fact),
-    })
+        Fact::Connection(_) | Fact::Waits(_) => said(alloc, "no such connection"),
+        Fact::Session(s, fact) if s < board.sessions() => session(alloc, board, s, fact),
+        Fact::Session(..) => said(alloc, "no such session"),
+        Fact::Strays => shown(alloc, &desk.strays.as_slice()),
+    }
 }
 
-fn is_so_of_a_session(alloc: Global, board: &Switchboard, fact: Fact) -> Result<bool, NoMemory> {
-    Ok(match fact {
-        Fact::Owner(s, library, lease) => {
-            s < board.sessions() && board.session(s).owner() == (library, lease)
-        }
-        Fact::Reserved(s, wanted) => {
-            let reserved = wanted.map(|(library, past)| (library, T.saturating_add(past)));
-            s < board.sessions() && board.session(s).reserved() == reserved
-        }
-        Fact::Inbound(s, count) => {
-            s < board.sessions() && board.session(s).inbound().len() == count
-        }
-        Fact::Outbound(s, number, past, count, text) => {
-            return is_sent(alloc, board, s, number, past, count, text);
-        }
-        _ => false,
-    })
+fn connection(alloc: Global, connection: &Connection) -> Result<Option<String>, NoMemory> {
+    let (session, cause) = (connection.session(), connection.cause());
+    Ok(Some(format!(in alloc; "session {session:?}, cause {cause:?}")?))
 }
 
-fn is_sent(
+fn session(
     alloc: Global,
     board: &Switchboard,
     s: usize,
-    number: u64,
-    past: u64,
-    count: u64,
-    text: &str,
-) -> Result<bool, NoMemory> {
-    if s >= board.sessions() {
-        return Ok(false);
+    fact: SessionFact,
+) -> Result<Option<String>, NoMemory>
+    requires { s < length board.now.sessions }
+{
+    let book = board.session(s);
+    match fact {
+        SessionFact::Place => shown(alloc, &board.place(s)),
+        SessionFact::Owner => {
+            let (library, lease) = book.owner();
+            Ok(Some(format!(in alloc; "library {library}, lease {lease}")?))
+        }
+        SessionFact::Reserved => reserved(alloc, book),
+        SessionFact::Inbound => shown(alloc, &book.inbound().len()),
+        SessionFact::Outbound(number) => outbound(alloc, book, number),
     }
-    let log = board.session(s).outbound();
-    let Some(entry) = log.entry(1, number) else {
-        return Ok(false);
-    };
-    let is_so = log.len_of(1) == Some(count) && entry.at == T.saturating_add(past);
-    Ok(is_so && is_text(alloc, entry.body.as_slice(), text)?)
 }
 
-/// The entries of a session's journal behind the first so many.
-pub fn entries_behind(desk: &LibraryDesk, s: usize, count: usize) -> Option<&[Entry]> {
-    let board = &desk.desk.board;
-    if s >= board.sessions() {
-        return None;
-    }
-    let entries = board.session(s).entries();
-    if count > entries.len() {
-        return None;
-    }
-    Some(&entries[count..])
+// A moment is told by how far it is behind the morning's beginning.
+fn reserved(alloc: Global, book: &SessionBook) -> Result<Option<String>, NoMemory> {
+    let Some((library, until)) = book.reserved() else {
+        return said(alloc, "for nobody");
+    };
+    let past = until.wrapping_sub(T);
+    Ok(Some(format!(in alloc; "for library {library} until {past}")?))
+}
+
+fn outbound(alloc: Global, book: &SessionBook, number: u64) -> Result<Option<String>, NoMemory> {
+    let log = book.outbound();
+    let (Some(entry), Some(count)) = (log.entry(1, number), log.len_of(1)) else {
+        return said(alloc, "no such body");
+    };
+    let past = entry.at.wrapping_sub(T);
+    let body = legible(alloc, entry.body.as_slice())?;
+    Ok(Some(format!(in alloc; "at {past}, of {count}: {body}")?))
 }

@@ -12,7 +12,9 @@ ghost use Rattle.switchboard.specs.Board.{book_at};
 ghost use Rattle.switchboard.specs.Sound.{bound_of};
 
 use crate::engine_desk::EngineDesk;
+use crate::outset::Outset;
 use crate::texts::T;
+use anyhow::{Context, Result};
 use catchup_pump::Cursor;
 use fix_fields::LONGEST_NAME;
 use gate_io::{Bytes, NoMemory};
@@ -27,20 +29,22 @@ use session_book::{Revival, SessionBook, Unkept};
 use session_core::Names;
 use session_desk::Routes;
 use std::alloc::Global;
-use std::test::Fail;
 use switchboard::Switchboard;
 use switchboard::laws::boards_stay_ready;
 
-/// How many libraries there are, how long a beat may stand still, and how long an heir is waited for,
-/// in milliseconds.
-pub const LIBRARIES: u8 = 2;
-
-pub const TIMEOUT: u64 = 5_000;
-
+/// How long an heir is waited for, in milliseconds.
 pub const HOLD: u64 = 2_000;
 
-/// The HeartBtInt of a session that dials, in seconds.
-pub const HEART: u32 = 30;
+/// For how many notices a ring has room at most.
+pub const MOST_NOTICES: u64 = 256;
+
+// The HeartBtInt of a session that dials, in seconds.
+const HEART: u32 = 30;
+
+// How many libraries there are, and how long a beat may stand still, in milliseconds.
+const LIBRARIES: u8 = 2;
+
+const TIMEOUT: u64 = 5_000;
 
 // How often a session can be granted, how many sends a lease makes, for how many of them a lane has
 // room, and for how many commands a ring.
@@ -74,27 +78,25 @@ struct Rings {
     ghost library_head: { head.ring ≡ notices },
 }
 
-/// A table and rings, of which those of notices have room for as many, with sessions that nobody has
-/// yet, and their two sides. The second session dials where there is a HeartBtInt.
-pub fn make(alloc: Global, notices: u64, dials: Option<u32>) -> Result<(Shared, Sides), Fail>
-    requires notices { (0 < notices) × (notices ≤ 256) }
-    requires dials { IfSome dials IsDialHeart }
+/// A table and rings as the outset says, with sessions that nobody has yet, and their two sides.
+pub fn make(alloc: Global, outset: Outset) -> Result<(Shared, Sides)>
     ensures running { IfOk result (λ made. IsRunning made.0 made.1.desk) }
     ensures first { IfOk result (λ made. AreEnds made.0 0 made.1.first) }
     ensures second { IfOk result (λ made. AreEnds made.0 1 made.1.second) }
 {
     let (leases, seat, seats) = Leases::new(alloc, 2, LIBRARIES, DEPTH, SENDS)?;
     let mut seats = seats.into_iter();
-    let first_seat = seats.next().ok_or("a seat")?;
-    let second_seat = seats.next().ok_or("a seat")?;
-    let first = make_rings(alloc, notices)?;
-    let second = make_rings(alloc, notices)?;
+    let first_seat = seats.next().context("a seat")?;
+    let second_seat = seats.next().context("a seat")?;
+    let first = make_rings(alloc, outset.notices)?;
+    let second = make_rings(alloc, outset.notices)?;
     let shared = Shared {
         leases,
         commands: Vec::from_array(alloc, [first.commands, second.commands])?,
         notices: Vec::from_array(alloc, [first.notices, second.notices])?,
     };
     let ends = Vec::from_array(alloc, [first.engine, second.engine])?;
+    let dials = heart_of(outset.is_dialling);
     let desk = engine_desk(alloc, &shared, seat, ends, dials)?;
     let first = LibraryEnds2 {
         number: first_seat.number(),
@@ -114,6 +116,13 @@ pub fn make(alloc: Global, notices: u64, dials: Option<u32>) -> Result<(Shared, 
         second,
     };
     Ok((shared, sides))
+}
+
+// The HeartBtInt of the second session, if that dials.
+fn heart_of(is_dialling: bool) -> Option<u32>
+    ensures { IfSome result IsDialHeart }
+{
+    if is_dialling { Some(HEART) } else { None }
 }
 
 // The engine's side of a table that is new, with its ends of the rings.
@@ -156,7 +165,7 @@ fn engine_desk(
 }
 
 fn make_rings(alloc: Global, notices: u64) -> Result<Rings, NoMemory>
-    requires { (0 < notices) × (notices ≤ 256) }
+    requires { (0 < notices) × (notices ≤ MOST_NOTICES) }
 {
     let (commands, tail, engine_head) = ring(alloc, COMMANDS)?;
     let (notices, engine_tail, head) = ring(alloc, notices)?;

@@ -1,10 +1,19 @@
-//! Texts in which `|` stands for SOH.
+//! Texts in which `|` stands for SOH, and moments.
 
-use gate_io::NoMemory;
+ghost use Rattle.std.specs.Prelude.{◌≤◌};
+
+use gate_io::{LAST_MOMENT, NoMemory};
 use std::alloc::Global;
 
-/// 2026-01-05 09:30:00.000
+/// The morning's beginning, 2026-01-05 09:30:00.000.
 pub const T: u64 = 1_767_605_400_000;
+
+/// The moment that is so many milliseconds past the morning's beginning.
+pub fn moment(past: u64) -> u64
+    ensures { result ≤ LAST_MOMENT }
+{
+    T.saturating_add(past).min(LAST_MOMENT)
+}
 
 /// The bytes of a text in which `|` stands for SOH, `(n)` for BUYER's header with the number n, and
 /// `[n]` for SELLER's.
@@ -32,7 +41,17 @@ pub fn order(alloc: Global, s: u16, number: u64) -> Result<Vec<u8>, NoMemory> {
     soh(alloc, text.as_str())
 }
 
-/// Whether the bytes are those of the text.
-pub fn is_text(alloc: Global, bytes: &[u8], text: &str) -> Result<bool, NoMemory> {
-    Ok(soh(alloc, text)?.as_slice() == bytes)
+/// The text of bytes, in which a `|`, a backslash and what isn't printable but SOH stand as `\xNN`.
+pub fn legible(alloc: Global, bytes: &[u8]) -> Result<String, NoMemory> {
+    let mut text = String::new(alloc);
+    for byte in bytes {
+        match *byte {
+            1 => text.push('|')?,
+            b'|' | b'\\' | ..b' ' | 127.. => {
+                text.push_str(format!(in alloc; "\\x{byte:02x}")?.as_str())?;
+            }
+            _ => text.push(char::from(*byte))?,
+        }
+    }
+    Ok(text)
 }

@@ -101,6 +101,16 @@ pub fn arrivals(alloc: Global, engine: &mut Engine, count: u64) -> Result<bool, 
     Ok(true)
 }
 
+/// Whether two pumps push so many messages whole, of which the first may find no memory after some.
+pub fn pump_twice(alloc: Global, engine: &mut Engine, count: u64) -> Result<bool, NoMemory> {
+    let before = engine.cursor().at;
+    let is_whole = engine.pump(alloc).is_ok();
+    let done = engine.cursor().at.saturating_sub(before);
+    let second = engine.pump(alloc)?;
+    let left = count.saturating_sub(done);
+    Ok(is_whole == (left == 0) && second.pushed == left)
+}
+
 /// Whether the log's messages of these positions are polled in order by lease 1, and then nothing.
 pub fn reads(engine: &Engine, library: &mut Application, first: u64, end: u64) -> bool {
     for pos in first..end {

@@ -2,15 +2,16 @@
 //! the engine takes sessions back and the library gives them back at random.
 use crate::draw::Draw;
 use crate::engine::Engine;
-use crate::shared::Shared;
+use crate::shared::{Limits, Shared};
+use anyhow::{Context, Result, bail};
 use gate_io::Bytes;
 use lease_core::{Command, Why};
 use lease_words::Item;
 use library_api::SendRefusal;
 use library_play::{Application, Seen};
 use std::alloc::Global;
-use std::test::Fail;
 use std::thread;
+use std::thread::Threads;
 
 // How many messages arrive, and how often a thread tries at most.
 const MESSAGES: u64 = 10_000;
@@ -283,11 +284,24 @@ fn is_prefix(read: &[Bytes], engine: &Engine) -> bool {
     true
 }
 
-#[test]
-fn messages_and_sends_come_whole_and_in_order(rt: HostRuntime) -> Result<(), Fail> {
-    let (shared, ends) = Shared::new(rt.alloc(), 500, 256)?;
-    let (engine, library) = shared.sides(rt.alloc(), ends, u32::MAX);
-    let alloc = rt.alloc();
+// Whether all came whole and in order: the messages that were read, and the sends that were taken.
+fn is_whole(giver: &Giver, reader: &Reader) -> bool {
+    reader.next() == MESSAGES
+        && reader.jumps == 0
+        && is_prefix(reader.read.as_slice(), &giver.engine)
+        && giver.taken.as_slice() == reader.sent.as_slice()
+        && !reader.sent.is_empty()
+}
+
+/// Lets the two run until all messages are read, and fails where not all came whole and in order.
+pub(crate) fn relay(rt: &impl Threads, alloc: Global) -> Result<()> {
+    let limits = Limits {
+        asks: u32::MAX,
+        sends: 500,
+        notices: 256,
+    };
+    let (shared, ends) = Shared::new(alloc, &limits)?;
+    let (engine, library) = shared.sides(alloc, ends, limits.asks);
     let giver = Giver {
         engine,
         draw: Draw::new(2026),
@@ -303,16 +317,10 @@ fn messages_and_sends_come_whole_and_in_order(rt: HostRuntime) -> Result<(), Fai
         read: Vec::new(alloc),
         jumps: 0,
     };
-    let (mut giver, reader) = thread::join(
-        &rt,
-        move || giver.run(alloc),
-        move || reader.run(alloc),
-    );
-    giver.drain().ok_or("an end")?;
-    assert_eq!(rt; reader.next(), MESSAGES);
-    assert_eq!(rt; reader.jumps, 0);
-    assert!(rt; is_prefix(reader.read.as_slice(), &giver.engine));
-    assert!(rt; giver.taken.as_slice() == reader.sent.as_slice());
-    assert!(rt; !reader.sent.is_empty());
+    let (mut giver, reader) = thread::join(rt, move || giver.run(alloc), move || reader.run(alloc));
+    giver.drain().context("an end")?;
+    if !is_whole(&giver, &reader) {
+        bail!("not all came whole and in order");
+    }
     Ok(())
 }

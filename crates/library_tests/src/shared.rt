@@ -3,13 +3,13 @@ ghost use Rattle.std.specs.Prelude.{◌≡◌, ◌<◌, ◌≤◌, [], IfOk};
 ghost use Rattle.lease_words.specs.Views.{engine_at};
 
 use crate::engine::Engine;
+use anyhow::{Context, Result};
 use lease_core::{Command, Notice};
 use lease_words::{EngineSeat, Leases};
 use library_api::{LibraryEnds2, Links};
 use library_play::Application;
 use ring_links::{Head, Ring, Tail, ring};
 use std::alloc::Global;
-use std::test::Fail;
 
 /// How many libraries the table is for. The first of them is there.
 pub const LIBRARIES: u8 = 2;
@@ -18,6 +18,58 @@ pub const LIBRARIES: u8 = 2;
 const DEPTH: u8 = 16;
 
 const COMMANDS: u64 = 256;
+
+/// How many requests the library may make, how many sends each lease may, and for how many notices the
+/// ring has room.
+#[derive(Drop)]
+pub struct Limits {
+    pub asks: u32,
+    pub sends: u32,
+    pub notices: u64,
+    ghost some_sends: { 1 ≤ sends },
+    ghost some_notices: { 0 < notices },
+    ghost few_notices: { notices ≤ 256 },
+}
+
+impl Limits {
+    /// As they are where nothing else is said.
+    pub fn usual() -> Limits {
+        Limits {
+            asks: 9,
+            sends: 9,
+            notices: 256,
+        }
+    }
+
+    pub fn of_requests(most: u32) -> Limits {
+        Limits {
+            asks: most,
+            sends: 9,
+            notices: 256,
+        }
+    }
+
+    pub fn of_sends(most: u32) -> Limits
+        requires { 0 < most }
+    {
+        Limits {
+            asks: 9,
+            sends: most,
+            notices: 256,
+        }
+    }
+
+    pub fn of_notices(most: u32) -> Limits
+        requires some { 0 < most }
+        requires few { most ≤ 256 }
+    {
+        Limits {
+            asks: 9,
+            sends: 9,
+            notices: u64::from(most),
+        }
+    }
+}
 
 /// A table for session 0 and two libraries, and the two rings of the first.
 #[derive(Drop)]
@@ -39,10 +91,8 @@ pub struct Ends {
 }
 
 impl Shared {
-    /// A table whose leases make as many sends, and a ring of notices for as many, from 1 to 256.
-    pub fn new(alloc: Global, sends: u32, notices: u64) -> Result<(Shared, Ends), Fail>
-        requires sends { 1 ≤ sends }
-        requires notices { (0 < notices) × (notices ≤ 256) }
+    /// A table whose leases make as many sends, and a ring of notices for as many, as the limits say.
+    pub fn new(alloc: Global, limits: &Limits) -> Result<(Shared, Ends)>
         ensures seat { IfOk result (λ r. r.1.seat.table ≡ r.0.leases) }
         ensures published { IfOk result (λ r. (engine_at r.1.seat 0).published ≡ 0) }
         ensures head { IfOk result (λ r. r.1.head.ring ≡ r.0.commands) }
@@ -51,10 +101,10 @@ impl Shared {
         ensures library_tail { IfOk result (λ r. r.1.library.tail.ring ≡ r.0.commands) }
         ensures library_head { IfOk result (λ r. r.1.library.head.ring ≡ r.0.notices) }
     {
-        let (leases, seat, seats) = Leases::new(alloc, 1, LIBRARIES, DEPTH, sends)?;
-        let first = seats.into_iter().next().ok_or("a seat")?;
+        let (leases, seat, seats) = Leases::new(alloc, 1, LIBRARIES, DEPTH, limits.sends)?;
+        let first = seats.into_iter().next().context("a seat")?;
         let (commands, library_tail, head) = ring(alloc, COMMANDS)?;
-        let (notices, tail, library_head) = ring(alloc, notices)?;
+        let (notices, tail, library_head) = ring(alloc, limits.notices)?;
         let library = LibraryEnds2 {
             number: first.number(),
             seat: first,

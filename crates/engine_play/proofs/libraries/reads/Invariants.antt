@@ -1,5 +1,0 @@
-use Rattle.std.proofs.Common.{◌≡◌}
-use Rattle.engine_play.proofs.libraries.reads.Given as goal
-
-abbrev pub invariant-loop-pos : goal.invariant-loop-pos
-invariant-loop-pos l = l.library.links ≡ l.initial.library.links

@@ -1,5 +1,0 @@
-use Rattle.engine_play.specs.Outside.{IsOver}
-use Rattle.engine_play.proofs.playing.turns.Given as goal
-
-abbrev pub invariant-loop-turn : goal.invariant-loop-turn
-invariant-loop-turn l = IsOver l.shared l.gateway.engine l.gateway.wire.wire

@@ -1,0 +1,87 @@
+//! Tests of the pump and of a trading library, by their public calls.
+//!
+//! Each argument names a file of rows, or is one of
+//!
+//!     meeting   what a library lends meets the engine, and its seat is settled
+//!     relay     an engine and a library in threads of their own
+//!
+//! Each row begins with a new library 1 and a new engine, which is made by hand. Its steps are the calls of the
+//! one and the acts of the other:
+//!
+//!     COMMAND: RESULT
+//!     COMMAND
+//!
+//! A command is a name with numbers and bodies; `calls.rt`, `acts.rt` and `pairs.rt` have the names. The result is
+//! what `Debug` prints of the answer, behind a message its body, in which `|` stands for SOH. A step without a
+//! result wants that what it says was done.
+//!
+//! For each row that is as wanted there is a line that says how many steps it has; for one that isn't, a line with
+//! the first step that differs, as wanted and as found. The program fails if a row differs.
+#![tactic(auto)]
+
+mod acts;
+mod answers;
+mod calls;
+mod draw;
+mod engine;
+mod lines;
+mod many;
+mod meeting;
+mod pairs;
+mod relay;
+mod rows;
+mod shared;
+mod steps;
+
+use anyhow::{Context, Result, bail};
+use row_text::rows_of;
+use rows::is_as_wanted;
+use std::alloc::Global;
+use std::rt::Runtime;
+use std::thread::Threads;
+use std::{env, fs};
+
+/// Plays the rows of a file. Answers how many aren't as wanted.
+fn play_file(rt: &impl Runtime, alloc: Global, file: &str) -> Result<u64> {
+    let text = fs::read_to_string(rt, file)?;
+    let Some(rows) = rows_of(alloc, text.as_str())? else {
+        bail!("a step before the first row");
+    };
+    let mut differ = 0u64;
+    for row in rows.as_slice() {
+        if !is_as_wanted(rt, alloc, file, row)? {
+            differ = differ.saturating_add(1);
+        }
+    }
+    Ok(differ)
+}
+
+/// Does what an argument names. Answers how many rows aren't as wanted.
+fn play(rt: &(impl Runtime + Threads), alloc: Global, name: &str) -> Result<u64> {
+    if name == "meeting" {
+        meeting::meet(alloc)?;
+        println!(rt; "meeting: the two sides met")?;
+        return Ok(0);
+    }
+    if name == "relay" {
+        relay::relay(rt, alloc)?;
+        println!(rt; "relay: messages and sends came whole and in order")?;
+        return Ok(0);
+    }
+    play_file(rt, alloc, name)
+}
+
+fn main(rt: HostRuntime) -> Result<()> {
+    let mut names = env::args(&rt)?;
+    let _program = names.next();
+    let mut differ = 0u64;
+    for name in names {
+        let name = name.as_str();
+        let others = play(&rt, rt.alloc(), name).context(format_args!("{name}"))?;
+        differ = differ.saturating_add(others);
+    }
+    if differ > 0 {
+        bail!("{differ} rows differ");
+    }
+    Ok(())
+}
