@@ -1,5 +1,6 @@
 //! Fields read and written: worked rows, each fault with its place, and random bodies.
 
+use crate::checks::{holds, same, same_at};
 use crate::plain_fields::{Place, read_plainly};
 use crate::texts::row_bytes;
 use fix_fields::{
@@ -18,10 +19,10 @@ fn a_data_field_may_hold_soh_and_equals(rt: HostRuntime) -> Result<(), Fail> {
     )?;
     let fields = Fields::read(rt.alloc(), &text)?;
     let raw = row_bytes(rt.alloc(), "a|8=FIX.4.4|9=5|b")?;
-    assert_eq!(rt; fields.len(), 7);
+    assert!(rt; fields.len() == 7);
     assert!(rt; !fields.is_empty());
     let (tag, value) = fields.at(6);
-    assert_eq!(rt; tag, 96);
+    same(&rt, &tag, &96);
     assert!(rt; value == raw.as_slice());
     assert!(rt; fields.first(96) == Some(raw.as_slice()));
     assert!(rt; fields.first(8).is_none());
@@ -61,8 +62,8 @@ fn each_fault_has_its_place(rt: HostRuntime) -> Result<(), Fail> {
     for (text, want) in cases {
         let text = row_bytes(rt.alloc(), text)?;
         match Fields::read(rt.alloc(), &text) {
-            Ok(_) => assert!(rt; false, "read in spite of {want}"),
-            Err(fault) => assert_eq!(rt; fault, want),
+            Ok(_) => holds(&rt, false, &want),
+            Err(fault) => same(&rt, &fault, &want),
         }
     }
     Ok(())
@@ -81,7 +82,12 @@ fn a_body_is_fit_or_has_a_place(rt: HostRuntime) -> Result<(), Fail> {
         ("35=D|11=a|52=b|43=Y|", Err(10)),
     ];
     for (text, want) in cases {
-        assert_eq!(rt; check_body(&row_bytes(rt.alloc(), text)?), want, "{text}");
+        same_at(
+            &rt,
+            &check_body(&row_bytes(rt.alloc(), text)?),
+            &want,
+            &text,
+        );
     }
     Ok(())
 }
@@ -95,9 +101,9 @@ fn a_builder_writes_the_text(rt: HostRuntime) -> Result<(), Fail> {
     builder.field(alloc, 95, b"3")?;
     builder.field(alloc, 96, b"a\x01b")?;
     let want = row_bytes(rt.alloc(), "35=D|95=3|96=a|b|")?;
-    assert_eq!(rt; builder.finish().as_slice(), want.as_slice());
-    assert_eq!(rt; data_tag_of(95), Some(96));
-    assert_eq!(rt; data_tag_of(96), None);
+    same(&rt, &builder.finish().as_slice(), &want.as_slice());
+    same(&rt, &data_tag_of(95), &Some(96));
+    same(&rt, &data_tag_of(96), &None);
     assert!(rt; is_paired(89) && !is_paired(92));
     Ok(())
 }
@@ -109,7 +115,7 @@ fn a_field_is_put_behind_the_text(rt: HostRuntime) -> Result<(), Fail> {
     put_field(&mut text, 1, b"")?;
     put_tagged(&mut text, b"58", b"b")?;
     let want = row_bytes(rt.alloc(), "35=D|999999999=a|1=|58=b|")?;
-    assert_eq!(rt; text, want);
+    same(&rt, &text, &want);
     Ok(())
 }
 
@@ -170,11 +176,11 @@ fn random_bodies_are_read_as_the_rules_say(rt: HostRuntime) -> Result<(), Fail> 
             read_plainly(rt.alloc(), &body)?,
         ) {
             (Ok(fields), Ok(places)) => {
-                assert!(rt; are_at(&body, &fields, &places), "{body:?}");
+                holds(&rt, are_at(&body, &fields, &places), &body);
                 lawful = lawful.wrapping_add(1);
             }
-            (Err(fault), Err(wanted)) => assert_eq!(rt; fault, wanted, "{body:?}"),
-            _ => assert!(rt; false, "{body:?}"),
+            (Err(fault), Err(wanted)) => same_at(&rt, &fault, &wanted, &body),
+            _ => holds(&rt, false, &body),
         }
     }
     assert!(rt; lawful > 50);

@@ -1,12 +1,13 @@
 //! Frames: worked rows, garbled bytes and the limits.
 
+use crate::checks::{holds, same, same_at};
 use crate::feeding::cut_parts;
 use crate::texts::row_bytes;
 use fix_frame::{
     Cutter, FrameError, LEAST_LIMIT, LEAST_ROOM, LONGEST_BODY, LONGEST_FRAME, OwnedPiece, Piece,
     frame_len, is_body, write_frame,
 };
-use std::alloc::Global;
+use std::alloc::{AllocError, Global};
 use std::process::Abort;
 use std::test::Fail;
 
@@ -18,6 +19,34 @@ const ORDER: &str = "35=D|49=BUYER|56=GATE|34=2|52=20260105-09:30:00.000|11=A1|"
 fn frame_of(rt: &impl Abort, alloc: Global, body: &[u8]) -> Result<Vec<u8>, FrameError> {
     assert!(rt; is_body(body));
     write_frame(alloc, body)
+}
+
+/// The bytes of these texts, one behind another.
+fn joined(alloc: Global, texts: &[&str]) -> Result<Vec<u8>, AllocError> {
+    let mut bytes = Vec::new(alloc);
+    for text in texts {
+        bytes.extend_from_slice(&row_bytes(alloc, text)?)?;
+    }
+    Ok(bytes)
+}
+
+/// Writes the frame of a body, which has this head, trailer and length, and has it cut again.
+fn write_and_cut(
+    rt: &impl Abort,
+    alloc: Global,
+    cutter: &mut Cutter,
+    row: (&str, &str, &str, usize),
+) -> Result<(), Fail> {
+    let (text, head, trailer, length) = row;
+    let body = row_bytes(alloc, text)?;
+    let frame = frame_of(rt, alloc, &body)?;
+    same(rt, &frame, &joined(alloc, &[head, text, trailer])?);
+    same(rt, &frame.len(), &length);
+    assert!(rt; frame.len() <= cutter.room());
+    cutter.feed(&frame);
+    same(rt, &cutter.next(), &Some(Piece::Good(&body)));
+    same(rt, &cutter.next(), &None);
+    Ok(())
 }
 
 #[test]
@@ -33,19 +62,41 @@ fn worked_frames_are_written_and_cut(rt: HostRuntime) -> Result<(), Fail> {
         ),
     ];
     let mut cutter = Cutter::new(rt.alloc(), LONGEST_FRAME)?;
-    for (text, head, trailer, length) in rows {
-        let body = row_bytes(rt.alloc(), text)?;
-        let frame = frame_of(&rt, rt.alloc(), &body)?;
-        let mut whole = row_bytes(rt.alloc(), head)?;
-        whole.extend_from_slice(&body)?;
-        whole.extend_from_slice(&row_bytes(rt.alloc(), trailer)?)?;
-        assert_eq!(rt; frame, whole);
-        assert_eq!(rt; frame.len(), length);
-        assert!(rt; frame.len() <= cutter.room());
-        cutter.feed(&frame);
-        assert_eq!(rt; cutter.next(), Some(Piece::Good(&body)));
-        assert_eq!(rt; cutter.next(), None);
+    for row in rows {
+        write_and_cut(&rt, rt.alloc(), &mut cutter, row)?;
     }
+    Ok(())
+}
+
+/// The sum of the garbled bytes among the next pieces, so many of them.
+fn garbled_among(cutter: &mut Cutter, count: u32) -> usize {
+    let mut sum = 0usize;
+    for _ in 0..count {
+        if let Some(Piece::Garbled { length }) = cutter.next() {
+            sum = sum.wrapping_add(length);
+        }
+    }
+    sum
+}
+
+/// Cuts these bytes with the frame of `ORDER` behind them: so many pieces have so many garbled bytes, and
+/// then the order comes.
+fn cut_before_the_order(
+    rt: &impl Abort,
+    alloc: Global,
+    texts: &[&str],
+    garbled: usize,
+    count: u32,
+) -> Result<(), Fail> {
+    let order = row_bytes(alloc, ORDER)?;
+    let mut bytes = joined(alloc, texts)?;
+    bytes.extend_from_slice(&frame_of(rt, alloc, &order)?)?;
+    let mut cutter = Cutter::new(alloc, LONGEST_FRAME)?;
+    assert!(rt; bytes.len() <= cutter.room());
+    cutter.feed(&bytes);
+    same(rt, &garbled_among(&mut cutter, count), &garbled);
+    same(rt, &cutter.next(), &Some(Piece::Good(&order)));
+    same(rt, &cutter.next(), &None);
     Ok(())
 }
 
@@ -58,25 +109,8 @@ fn garbled_bytes_are_counted(rt: HostRuntime) -> Result<(), Fail> {
         ("8=FIX.4.4|9=65|", LOGON, "10=149|", 86, 86),
         ("8=FIX.4.4|9=58|", ORDER, "10=149|", 80, 1),
     ];
-    let order = row_bytes(rt.alloc(), ORDER)?;
-    let after = frame_of(&rt, rt.alloc(), &order)?;
     for (head, body, trailer, garbled, count) in rows {
-        let mut bytes = row_bytes(rt.alloc(), head)?;
-        bytes.extend_from_slice(&row_bytes(rt.alloc(), body)?)?;
-        bytes.extend_from_slice(&row_bytes(rt.alloc(), trailer)?)?;
-        bytes.extend_from_slice(&after)?;
-        let mut cutter = Cutter::new(rt.alloc(), LONGEST_FRAME)?;
-        assert!(rt; bytes.len() <= cutter.room());
-        cutter.feed(&bytes);
-        let mut sum = 0usize;
-        for _ in 0..count {
-            if let Some(Piece::Garbled { length }) = cutter.next() {
-                sum = sum.wrapping_add(length);
-            }
-        }
-        assert_eq!(rt; sum, garbled);
-        assert_eq!(rt; cutter.next(), Some(Piece::Good(&order)));
-        assert_eq!(rt; cutter.next(), None);
+        cut_before_the_order(&rt, rt.alloc(), &[head, body, trailer], garbled, count)?;
     }
     Ok(())
 }
@@ -117,8 +151,8 @@ fn taken_pieces_are_those_that_are_lent(rt: HostRuntime) -> Result<(), Fail> {
     ] {
         let lent = lender.next();
         let taken = giver.take_next(rt.alloc())?;
-        assert_eq!(rt; lent, wanted);
-        assert!(rt; is_same(&taken, lent), "{taken:?} for {lent:?}");
+        same(&rt, &lent, &wanted);
+        holds(&rt, is_same(&taken, lent), &(taken, lent));
     }
     Ok(())
 }
@@ -134,16 +168,16 @@ fn body_of(alloc: Global, size: usize) -> Result<Vec<u8>, Fail> {
 #[test]
 fn frames_end_at_the_limit(rt: HostRuntime) -> Result<(), Fail> {
     let body = body_of(rt.alloc(), LONGEST_BODY)?;
-    assert_eq!(rt; frame_len(&body), 65_536);
+    same(&rt, &frame_len(&body), &65_536);
     let frame = frame_of(&rt, rt.alloc(), &body)?;
-    assert_eq!(rt; frame.len(), 65_536);
+    same(&rt, &frame.len(), &65_536);
     let mut cutter = Cutter::new(rt.alloc(), LONGEST_FRAME)?;
     for byte in &frame {
-        assert_eq!(rt; cutter.next(), None);
+        assert!(rt; cutter.next().is_none());
         assert!(rt; cutter.room() >= LEAST_ROOM);
         cutter.feed(&[*byte]);
     }
-    assert_eq!(rt; cutter.next(), Some(Piece::Good(&body)));
+    same(&rt, &cutter.next(), &Some(Piece::Good(&body)));
     Ok(())
 }
 
@@ -151,9 +185,9 @@ fn frames_end_at_the_limit(rt: HostRuntime) -> Result<(), Fail> {
 fn longer_bodies_are_too_long(rt: HostRuntime) -> Result<(), Fail> {
     for (size, length) in [(65_512, 65_537), (99_999, 100_024), (100_000, 100_026)] {
         let body = body_of(rt.alloc(), size)?;
-        assert_eq!(rt; frame_len(&body), length);
+        same(&rt, &frame_len(&body), &length);
         let error = frame_of(&rt, rt.alloc(), &body);
-        assert_eq!(rt; error, Err(FrameError::TooLong { length }));
+        same(&rt, &error, &Err(FrameError::TooLong { length }));
     }
     Ok(())
 }
@@ -167,7 +201,7 @@ fn short_limits_are_held_to(rt: HostRuntime) -> Result<(), Fail> {
     for (text, count) in rows {
         let bytes = row_bytes(rt.alloc(), text)?;
         for given in cut_parts(rt.alloc(), LEAST_LIMIT, &[bytes])? {
-            assert_eq!(rt; given.len(), count);
+            same(&rt, &given.len(), &count);
         }
     }
     Ok(())
@@ -185,7 +219,7 @@ fn what_is_a_body(rt: HostRuntime) -> Result<(), Fail> {
         ("36=D|", false),
     ];
     for (text, wanted) in rows {
-        assert_eq!(rt; is_body(&row_bytes(rt.alloc(), text)?), wanted, "{text}");
+        same_at(&rt, &is_body(&row_bytes(rt.alloc(), text)?), &wanted, &text);
     }
     Ok(())
 }

@@ -2,6 +2,8 @@
 //! of a `Cutter` for bytes that come in parts of any size.
 #![tactic(auto)]
 
+#[cfg(test)]
+mod checks;
 mod feeding;
 #[cfg(test)]
 mod fields;

@@ -1,5 +1,6 @@
 //! Random streams, cut in parts of random lengths and plainly.
 
+use crate::checks::{same, same_at};
 use crate::feeding::{OwnedPiece, cut_parts};
 use crate::plain_cut::{LIMIT, cut_plainly, forms};
 use crate::texts::row_bytes;
@@ -72,10 +73,11 @@ fn random_streams_are_cut_as_the_rules_say(rt: HostRuntime) -> Result<(), Fail> 
         let parts = parts_of(alloc, &bytes, &mut random)?;
         let given = cut_parts(alloc, LIMIT, &parts)?;
         let (wanted, _) = cut_plainly(alloc, &forms, &bytes)?;
-        assert_eq!(rt;
-            printed(alloc, given)?,
-            format!(in alloc; "{wanted:?}")?,
-            "{bytes:?}"
+        same_at(
+            &rt,
+            &printed(alloc, given)?,
+            &format!(in alloc; "{wanted:?}")?,
+            &bytes,
         );
     }
     Ok(())
@@ -92,7 +94,11 @@ fn each_prefix_gives_its_pieces(rt: HostRuntime) -> Result<(), Fail> {
             let part = Vec::from_slice(alloc, &bytes[..end])?;
             let given = cut_parts(alloc, LIMIT, &[part])?;
             let (wanted, _) = cut_plainly(alloc, &forms, &bytes[..end])?;
-            assert_eq!(rt; printed(alloc, given)?, format!(in alloc; "{wanted:?}")?);
+            same(
+                &rt,
+                &printed(alloc, given)?,
+                &format!(in alloc; "{wanted:?}")?,
+            );
         }
     }
     Ok(())

@@ -1,5 +1,6 @@
 //! Numbers and timestamps at their limits.
 
+use crate::checks::same;
 use fix_fields::{read_number, read_stamp, stamp_text};
 use gate_io::LAST_MOMENT;
 
@@ -14,19 +15,21 @@ fn numbers_at_their_limits(rt: HostRuntime) {
         (b"+1", None),
     ];
     for (text, want) in cases {
-        assert_eq!(rt; read_number(text), want);
+        same(&rt, &read_number(text), &want);
     }
 }
 
 #[test]
 fn timestamps_at_their_limits(rt: HostRuntime) {
-    assert_eq!(rt;
-        stamp_text(0).as_slice(),
-        b"19700101-00:00:00.000".as_slice()
+    same(
+        &rt,
+        &stamp_text(0).as_slice(),
+        &b"19700101-00:00:00.000".as_slice(),
     );
-    assert_eq!(rt;
-        stamp_text(LAST_MOMENT).as_slice(),
-        b"99991231-23:59:59.999".as_slice()
+    same(
+        &rt,
+        &stamp_text(LAST_MOMENT).as_slice(),
+        &b"99991231-23:59:59.999".as_slice(),
     );
     let cases: [(&[u8], Option<u64>); 10] = [
         (b"20260105-09:30:00.000", Some(1_767_605_400_000)),
@@ -41,6 +44,6 @@ fn timestamps_at_their_limits(rt: HostRuntime) {
         (b"20260105-09:30:00.0000", None),
     ];
     for (text, want) in cases {
-        assert_eq!(rt; read_stamp(text), want);
+        same(&rt, &read_stamp(text), &want);
     }
 }

@@ -1,5 +1,6 @@
 //! When a connection is late or slow, and that its first cause stays.
 
+use crate::checks::{same, same_at};
 use crate::texts::MORNING;
 use connection_core::{Connection, LOGON_WAIT, MOST_WAITING};
 use resend_plan::WireItem;
@@ -16,7 +17,7 @@ fn an_accepted_one_is_late_after_ten_seconds(rt: HostRuntime) -> Result<(), Fail
         (MORNING + 10_000, true),
         (u64::MAX, true),
     ] {
-        assert_eq!(rt; accepted.is_late(moment), late, "at {moment}");
+        same_at(&rt, &accepted.is_late(moment), &late, &moment);
     }
     let mut bound = Connection::accepted(rt.alloc(), 5, MORNING)?;
     bound.bind(0);
@@ -29,12 +30,12 @@ fn an_accepted_one_is_late_after_ten_seconds(rt: HostRuntime) -> Result<(), Fail
 #[test]
 fn a_new_one_tells_what_it_was_made_of(rt: HostRuntime) -> Result<(), Fail> {
     let accepted = Connection::accepted(rt.alloc(), 4, MORNING)?;
-    assert_eq!(rt; accepted.number(), 4);
-    assert_eq!(rt; accepted.since(), MORNING);
-    assert_eq!(rt; accepted.session(), None);
+    same(&rt, &accepted.number(), &4);
+    same(&rt, &accepted.since(), &MORNING);
+    same(&rt, &accepted.session(), &None);
     assert!(rt; !accepted.is_dialled() && !accepted.has_ended());
     let dialled = Connection::dialled(rt.alloc(), 5, MORNING, 9)?;
-    assert_eq!(rt; dialled.session(), Some(9));
+    same(&rt, &dialled.session(), &Some(9));
     assert!(rt; dialled.is_dialled() && !dialled.has_ended());
     Ok(())
 }
@@ -52,16 +53,17 @@ fn one_is_slow_above_the_limit(rt: HostRuntime) -> Result<(), Fail> {
     let out = connection.outbox();
     out.reserve(items.len())?;
     out.queue_all(&items);
-    assert_eq!(rt; connection.slow_cause(), None);
+    same(&rt, &connection.slow_cause(), &None);
     let out = connection.outbox();
     out.reserve(1)?;
     out.queue(item);
     let waiting = 1_048_577;
-    assert_eq!(rt;
-        connection.slow_cause(),
-        Some(Cause::SlowConsumer { waiting })
+    same(
+        &rt,
+        &connection.slow_cause(),
+        &Some(Cause::SlowConsumer { waiting }),
     );
-    assert_eq!(rt; connection.waiting_items(), waiting);
+    same(&rt, &connection.waiting_items(), &waiting);
     Ok(())
 }
 
@@ -70,7 +72,7 @@ fn the_first_cause_stays(rt: HostRuntime) -> Result<(), Fail> {
     let mut connection = Connection::accepted(rt.alloc(), 0, MORNING)?;
     connection.end(Cause::NotLogon);
     connection.end(Cause::ReadFault);
-    assert_eq!(rt; connection.cause(), Some(Cause::NotLogon));
+    same(&rt, &connection.cause(), &Some(Cause::NotLogon));
     assert!(rt; connection.has_ended());
     Ok(())
 }

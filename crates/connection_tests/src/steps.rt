@@ -1,5 +1,6 @@
 //! Steps on a desk as data, and how they are made one after another.
 
+use crate::checks::holds;
 use crate::desk::Desk;
 use crate::texts::{MORNING, is_text};
 use connection_core::{ConnRecord, Connection};
@@ -54,7 +55,7 @@ fn play_all(
 ) -> Result<ConnRecord, NoMemory> {
     for step in steps {
         let is_right = play(alloc, &mut desk, *step)?;
-        assert!(rt; is_right, "{step:?}");
+        holds(rt, is_right, &step);
     }
     Ok(desk.into_record())
 }

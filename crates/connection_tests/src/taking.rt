@@ -3,6 +3,7 @@
 ghost use Rattle.std.specs.Prelude.{◌≡◌, ◌≤◌, IsNone, OnOk};
 ghost use Rattle.connection_core.specs.Connection.{room};
 
+use crate::checks::{holds, same, same_at};
 use crate::texts::{MORNING, soh};
 use connection_core::{Connection, MOST_READ, OwnedPiece};
 use fix_frame::{is_body, write_frame};
@@ -106,10 +107,10 @@ fn parts_of_every_size_give_the_same(rt: HostRuntime) -> Result<(), Fail> {
         let mut connection = Connection::accepted(alloc, 0, MORNING)?;
         let mut given = Vec::new(alloc);
         take_all(alloc, &mut connection, &bytes, part, &mut given)?;
-        assert!(rt; given == wanted, "by {part} bytes");
+        holds(&rt, given == wanted, &part);
         let record = connection.into_record();
         assert!(rt; record.taken.as_slice() == bytes.as_slice());
-        assert_eq!(rt; record.garbled, garbled_in(&wanted), "by {part} bytes");
+        same_at(&rt, &record.garbled, &garbled_in(&wanted), &part);
     }
     Ok(())
 }
@@ -130,7 +131,7 @@ fn a_cut_at_each_place_gives_the_same(rt: HostRuntime) -> Result<(), Fail> {
     let (bytes, wanted) = stream(alloc, &mut Pcg32::new(23, 1), 9)?;
     for first in 0..bytes.len() {
         let given = take_twice(alloc, &bytes, first)?;
-        assert!(rt; given == wanted, "at {first}");
+        holds(&rt, given == wanted, &first);
     }
     Ok(())
 }
@@ -152,7 +153,7 @@ fn the_longest_frame_is_taken_by_whole_reads(rt: HostRuntime) -> Result<(), Fail
     let body = long_body(alloc, 65_511)?;
     assert!(rt; is_body(&body));
     let frame = write_frame(alloc, &body)?;
-    assert_eq!(rt; frame.len(), 65_536);
+    same(&rt, &frame.len(), &65_536);
     let mut connection = Connection::accepted(alloc, 0, MORNING)?;
     let mut given = Vec::new(alloc);
     take_all(alloc, &mut connection, &frame, MOST_READ, &mut given)?;
@@ -184,9 +185,9 @@ fn garbled_bytes_behind_the_end_arent_counted(rt: HostRuntime) -> Result<(), Fai
     connection.next(alloc)?;
     connection.end(Cause::NotLogon);
     let record = connection.into_record();
-    assert_eq!(rt; record.garbled, 2);
+    same(&rt, &record.garbled, &2);
     assert!(rt; record.taken.as_slice() == bytes.as_slice());
-    assert_eq!(rt; record.cause, Some(Cause::NotLogon));
+    same(&rt, &record.cause, &Some(Cause::NotLogon));
     assert!(rt; record.written.as_slice().is_empty());
     Ok(())
 }

@@ -1,5 +1,6 @@
 //! What is written on a connection, and what waits.
 
+use crate::checks::same;
 use crate::steps::Step::{Answer, End, Push, Queue, TurnOver, Waits, Wrote};
 use crate::steps::{Step, follow, follow_dialled};
 use crate::texts::{MORNING, is_text};
@@ -84,8 +85,8 @@ fn no_more_waits_than_the_limit(rt: HostRuntime) -> Result<(), Fail> {
     ];
     let record = follow(&rt, rt.alloc(), &steps)?;
     // What waits at the end isn't in the record.
-    assert_eq!(rt; record.written.as_slice().len(), 87);
-    assert_eq!(rt; record.cause, Some(Cause::WriteFault));
+    same(&rt, &record.written.as_slice().len(), &87);
+    same(&rt, &record.cause, &Some(Cause::WriteFault));
     Ok(())
 }
 
@@ -113,7 +114,7 @@ fn a_dialled_one_writes_its_first_item_alone(rt: HostRuntime) -> Result<(), Fail
     ];
     let record = follow_dialled(&rt, rt.alloc(), &steps)?;
     assert!(rt; is_text(record.written.as_slice(), ALL));
-    assert_eq!(rt; record.session, Some(3));
+    same(&rt, &record.session, &Some(3));
     Ok(())
 }
 

@@ -1,5 +1,6 @@
 //! Clocks.
 
+use crate::checks::same;
 use gate_io::{Clock, RealClock, StepClock};
 use std::cell::Cell;
 use std::time::Duration;
@@ -8,10 +9,10 @@ use std::{io, rt};
 #[test]
 fn a_clock_that_is_set(rt: HostRuntime) {
     let mut clock = StepClock::new(7);
-    assert_eq!(rt; clock.now(), 7);
+    same(&rt, &clock.now(), &7);
     clock.set(5);
-    assert_eq!(rt; clock.now(), 5);
-    assert_eq!(rt; clock.now(), 5);
+    same(&rt, &clock.now(), &5);
+    same(&rt, &clock.now(), &5);
 }
 
 /// A system's clock that gives a second more at each reading, and can't be read at the readings
@@ -45,7 +46,7 @@ fn the_systems_clock(rt: HostRuntime) {
     };
     let mut clock = RealClock::new(&faulty);
     for moment in [0, 1000, 2000, 2000, 4000] {
-        assert_eq!(rt; clock.now(), moment);
+        same(&rt, &clock.now(), &moment);
     }
     // The end of the year 2025.
     assert!(rt; RealClock::new(rt).now() > 1_767_225_599_000);

@@ -1,5 +1,6 @@
 //! Files and standard output.
 
+use crate::checks::same;
 use gate_io::{FileSource, Got, ReadAll, Sink, Source, StdSink, Wrote, read_all};
 use std::alloc::Global;
 use std::fs;
@@ -22,12 +23,12 @@ fn a_file_is_read_in_two_reads(rt: HostRuntime) -> Result<(), Fail> {
     fs::write(&rt, path, bytes.as_slice())?;
     let mut buf = [0u8; 4096];
     let mut file = FileSource::new(rt, String::from_str(alloc, path)?);
-    assert_eq!(rt; file.read(&mut buf), Got::Bytes(4096));
+    same(&rt, &file.read(&mut buf), &Got::Bytes(4096));
     assert!(rt; bytes.as_slice().starts_with(&buf));
     let mut rest = [0u8; 1904];
-    assert_eq!(rt; file.read(&mut rest), Got::Bytes(1904));
+    same(&rt, &file.read(&mut rest), &Got::Bytes(1904));
     assert!(rt; bytes.as_slice().ends_with(&rest));
-    assert_eq!(rt; file.read(&mut rest), Got::End);
+    same(&rt, &file.read(&mut rest), &Got::End);
     fs::remove_file(&rt, path)?;
     Ok(())
 }
@@ -40,11 +41,12 @@ fn a_file_is_read_whole(rt: HostRuntime) -> Result<(), Fail> {
     fs::write(&rt, path, bytes.as_slice())?;
     let mut file = FileSource::new(rt, String::from_str(alloc, path)?);
     let whole = read_all(alloc, &mut file, 6000)?;
-    assert_eq!(rt; whole.as_slice(), bytes.as_slice());
+    same(&rt, &whole.as_slice(), &bytes.as_slice());
     let mut file = FileSource::new(rt, String::from_str(alloc, path)?);
-    assert_eq!(rt;
-        read_all(alloc, &mut file, 5999).err(),
-        Some(ReadAll::TooLong)
+    same(
+        &rt,
+        &read_all(alloc, &mut file, 5999).err(),
+        &Some(ReadAll::TooLong),
     );
     fs::remove_file(&rt, path)?;
     Ok(())
@@ -55,17 +57,17 @@ fn files_that_give_nothing(rt: HostRuntime) -> Result<(), Fail> {
     let alloc = rt.alloc();
     let mut buf = [0u8; 4];
     let mut empty = FileSource::new(rt, String::from_str(alloc, "/dev/null")?);
-    assert_eq!(rt; empty.read(&mut buf), Got::End);
+    same(&rt, &empty.read(&mut buf), &Got::End);
     let mut folder = FileSource::new(rt, String::from_str(alloc, "/")?);
-    assert_eq!(rt; folder.read(&mut buf), Got::Failed);
+    same(&rt, &folder.read(&mut buf), &Got::Failed);
     let mut missing = FileSource::new(rt, String::from_str(alloc, "/no/such/file")?);
-    assert_eq!(rt; missing.read(&mut buf), Got::Failed);
-    assert_eq!(rt; missing.read(&mut buf), Got::Failed);
+    same(&rt, &missing.read(&mut buf), &Got::Failed);
+    same(&rt, &missing.read(&mut buf), &Got::Failed);
     Ok(())
 }
 
 #[test]
 fn standard_output_takes_bytes(rt: HostRuntime) {
     let mut out = StdSink::new(rt);
-    assert_eq!(rt; out.write(b"\n"), Wrote::Bytes(1));
+    same(&rt, &out.write(b"\n"), &Wrote::Bytes(1));
 }

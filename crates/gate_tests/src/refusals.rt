@@ -1,5 +1,6 @@
 //! Calls that find no memory.
 
+use crate::checks::same;
 use gate_io::{Accepted, MemSink, MemWire, NoMemory, Wire, WireWrote};
 use std::test::Fail;
 
@@ -10,7 +11,7 @@ const TOO_MANY: usize = usize::MAX / 2;
 fn a_sink_finds_no_room(rt: HostRuntime) {
     let alloc = rt.alloc();
     let refused = MemSink::new(alloc, TOO_MANY, Vec::new(alloc));
-    assert_eq!(rt; refused.err(), Some(NoMemory::OutOfMemory));
+    same(&rt, &refused.err(), &Some(NoMemory::OutOfMemory));
 }
 
 #[test]
@@ -20,10 +21,14 @@ fn a_wire_finds_no_room(rt: HostRuntime) -> Result<(), Fail> {
     let c = wire.connect(alloc)?;
     wire.take(alloc)?;
     wire.reserve(alloc, 3)?;
-    assert_eq!(rt; wire.reserve(alloc, TOO_MANY), Err(NoMemory::OutOfMemory));
+    same(
+        &rt,
+        &wire.reserve(alloc, TOO_MANY),
+        &Err(NoMemory::OutOfMemory),
+    );
     // The connection and its room are as they were.
-    assert_eq!(rt; wire.accept(), Accepted::New(c));
-    assert_eq!(rt; wire.write(0, b"back"), WireWrote::Bytes(3));
-    assert_eq!(rt; wire.write(0, b"k"), WireWrote::Failed);
+    same(&rt, &wire.accept(), &Accepted::New(c));
+    same(&rt, &wire.write(0, b"back"), &WireWrote::Bytes(3));
+    same(&rt, &wire.write(0, b"k"), &WireWrote::Failed);
     Ok(())
 }

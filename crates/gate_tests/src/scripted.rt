@@ -1,5 +1,6 @@
 //! Failures and blocks as they are scripted.
 
+use crate::checks::same_at;
 use crate::open_wire::Step::{
     Block, FailRead, FailWrite, Finish, Give, Read, Reserve, Unblock, Write,
 };
@@ -334,11 +335,17 @@ fn first_other(
 #[test]
 fn writes(rt: HostRuntime) -> Result<(), Fail> {
     for (name, steps) in WRITES {
-        assert_eq!(rt; first_other(rt.alloc(), false, 100, steps)?, None, "{name}");
-        assert_eq!(rt;
-            first_other(rt.alloc(), true, 100, steps)?,
-            None,
-            "dialled: {name}"
+        same_at(
+            &rt,
+            &first_other(rt.alloc(), false, 100, steps)?,
+            &None,
+            &name,
+        );
+        same_at(
+            &rt,
+            &first_other(rt.alloc(), true, 100, steps)?,
+            &None,
+            &name,
         );
     }
     Ok(())
@@ -347,12 +354,13 @@ fn writes(rt: HostRuntime) -> Result<(), Fail> {
 #[test]
 fn rooms(rt: HostRuntime) -> Result<(), Fail> {
     for (name, steps) in ROOMS {
-        assert_eq!(rt; first_other(rt.alloc(), false, 0, steps)?, None, "{name}");
-        assert_eq!(rt;
-            first_other(rt.alloc(), true, 0, steps)?,
-            None,
-            "dialled: {name}"
+        same_at(
+            &rt,
+            &first_other(rt.alloc(), false, 0, steps)?,
+            &None,
+            &name,
         );
+        same_at(&rt, &first_other(rt.alloc(), true, 0, steps)?, &None, &name);
     }
     Ok(())
 }
@@ -360,12 +368,13 @@ fn rooms(rt: HostRuntime) -> Result<(), Fail> {
 #[test]
 fn reads(rt: HostRuntime) -> Result<(), Fail> {
     for (name, steps) in READS {
-        assert_eq!(rt; first_other(rt.alloc(), false, 0, steps)?, None, "{name}");
-        assert_eq!(rt;
-            first_other(rt.alloc(), true, 0, steps)?,
-            None,
-            "dialled: {name}"
+        same_at(
+            &rt,
+            &first_other(rt.alloc(), false, 0, steps)?,
+            &None,
+            &name,
         );
+        same_at(&rt, &first_other(rt.alloc(), true, 0, steps)?, &None, &name);
     }
     Ok(())
 }

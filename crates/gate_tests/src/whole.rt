@@ -1,5 +1,6 @@
 //! Sources that are read whole, and sinks that are written.
 
+use crate::checks::same;
 use gate_io::{
     Got, MemSink, MemSource, ReadAll, Sink, Source, WriteFault, Wrote, read_all, write_all,
 };
@@ -10,7 +11,7 @@ fn a_source_is_read_whole(rt: HostRuntime) -> Result<(), Fail> {
     let alloc = rt.alloc();
     let mut source = MemSource::new(Vec::from_slice(alloc, b"a script")?, Vec::new(alloc));
     let bytes = read_all(alloc, &mut source, 8)?;
-    assert_eq!(rt; bytes.as_slice(), b"a script".as_slice());
+    same(&rt, &bytes.as_slice(), &b"a script".as_slice());
     Ok(())
 }
 
@@ -19,13 +20,14 @@ fn a_read_that_fails_is_told(rt: HostRuntime) -> Result<(), Fail> {
     let alloc = rt.alloc();
     let bytes = vec![in alloc; 7u8; 70_000]?;
     let mut source = MemSource::new(bytes, vec![in alloc; 1u64]?);
-    assert_eq!(rt;
-        read_all(alloc, &mut source, 100_000).err(),
-        Some(ReadAll::ReadFault)
+    same(
+        &rt,
+        &read_all(alloc, &mut source, 100_000).err(),
+        &Some(ReadAll::ReadFault),
     );
     // The first piece was given.
     let rest = read_all(alloc, &mut source, 100_000)?;
-    assert_eq!(rt; rest.len(), 70_000 - 65_536);
+    same(&rt, &rest.len(), &(70_000 - 65_536));
     Ok(())
 }
 
@@ -33,9 +35,10 @@ fn a_read_that_fails_is_told(rt: HostRuntime) -> Result<(), Fail> {
 fn a_source_over_the_limit_is_too_long(rt: HostRuntime) -> Result<(), Fail> {
     let alloc = rt.alloc();
     let mut source = MemSource::new(Vec::from_slice(alloc, b"a script")?, Vec::new(alloc));
-    assert_eq!(rt;
-        read_all(alloc, &mut source, 7).err(),
-        Some(ReadAll::TooLong)
+    same(
+        &rt,
+        &read_all(alloc, &mut source, 7).err(),
+        &Some(ReadAll::TooLong),
     );
     Ok(())
 }
@@ -45,12 +48,13 @@ fn a_fault_behind_the_limit_is_not_met(rt: HostRuntime) -> Result<(), Fail> {
     let alloc = rt.alloc();
     let bytes = vec![in alloc; 7u8; 140_000]?;
     let mut source = MemSource::new(bytes, vec![in alloc; 2u64]?);
-    assert_eq!(rt;
-        read_all(alloc, &mut source, 100_000).err(),
-        Some(ReadAll::TooLong)
+    same(
+        &rt,
+        &read_all(alloc, &mut source, 100_000).err(),
+        &Some(ReadAll::TooLong),
     );
     let mut buf = [0u8; 4];
-    assert_eq!(rt; source.read(&mut buf), Got::Failed);
+    same(&rt, &source.read(&mut buf), &Got::Failed);
     Ok(())
 }
 
@@ -58,11 +62,15 @@ fn a_fault_behind_the_limit_is_not_met(rt: HostRuntime) -> Result<(), Fail> {
 fn a_sink_takes_a_beginning(rt: HostRuntime) -> Result<(), Fail> {
     let alloc = rt.alloc();
     let mut sink = MemSink::new(alloc, 10, Vec::new(alloc))?;
-    assert_eq!(rt; write_all(&mut sink, b"twelve bytes"), Err(WriteFault));
-    assert_eq!(rt; sink.bytes(), b"twelve byt".as_slice());
+    same(
+        &rt,
+        &write_all(&mut sink, b"twelve bytes"),
+        &Err(WriteFault),
+    );
+    same(&rt, &sink.bytes(), &b"twelve byt".as_slice());
     let mut sink = MemSink::new(alloc, 100, vec![in alloc; 0u64]?)?;
-    assert_eq!(rt; write_all(&mut sink, b"none"), Err(WriteFault));
-    assert_eq!(rt; sink.bytes(), b"".as_slice());
-    assert_eq!(rt; sink.write(b"some"), Wrote::Bytes(4));
+    same(&rt, &write_all(&mut sink, b"none"), &Err(WriteFault));
+    same(&rt, &sink.bytes(), &b"".as_slice());
+    same(&rt, &sink.write(b"some"), &Wrote::Bytes(4));
     Ok(())
 }

@@ -2,6 +2,7 @@
 ghost use Rattle.std.specs.Prelude.{◌≡◌, ◌<◌};
 
 use crate::cases::{Both, Rule, entry, generated};
+use crate::checks::{holds, same, same_at};
 use crate::plain::{plain_entry, plain_stretch_end};
 use gate_io::NoMemory;
 use message_log::{InLog, LAST_SERIES, OutEntry, OutLog, PAGE, Steps};
@@ -75,10 +76,7 @@ fn are_alike(a: Option<&OutEntry>, b: Option<&OutEntry>) -> bool {
 fn compare(rt: &impl Abort, alloc: Global, count: u64, rule: Rule) -> Result<(), NoMemory> {
     let both = generated(alloc, count, rule)?;
     let alike = agree::<Brand>(&both, Blank::new(1));
-    assert!(rt;
-        alike && both.log.len() == count,
-        "{count} entries by {rule:?}"
-    );
+    holds(rt, alike && both.log.len() == count, &(count, rule));
     Ok(())
 }
 
@@ -136,15 +134,15 @@ fn stretches_end_where_an_application_entry_comes(rt: HostRuntime) -> Result<(),
     // Logon, application, Heartbeat, application
     push_all(rt.alloc(), &mut log, &[true, false, true, false])?;
     let row = [Some(1), None, Some(3), None, None];
-    assert_eq!(rt; first_ends::<Brand>(&log, 1, Blank::new(1)), row);
+    same(&rt, &first_ends::<Brand>(&log, 1, Blank::new(1)), &row);
 
     // In the second series the numbers begin again: Logon, Heartbeat, a Reject, which is an
     // application entry, and a Heartbeat.
     next_series(rt.alloc(), &mut log)?;
     push_all(rt.alloc(), &mut log, &[true, true, false, true])?;
-    assert_eq!(rt; first_ends::<Brand>(&log, 1, Blank::new(1)), row);
+    same(&rt, &first_ends::<Brand>(&log, 1, Blank::new(1)), &row);
     let second = [Some(2), Some(2), None, Some(4), None];
-    assert_eq!(rt; first_ends::<Brand>(&log, 2, Blank::new(1)), second);
+    same(&rt, &first_ends::<Brand>(&log, 2, Blank::new(1)), &second);
     Ok(())
 }
 
@@ -155,9 +153,9 @@ fn numbers_begin_again_with_each_series(rt: HostRuntime) -> Result<(), Fail> {
     next_series(rt.alloc(), &mut log)?;
     push_all(rt.alloc(), &mut log, &[true, true])?;
     let number = log.push(rt.alloc(), entry(rt.alloc(), 9, false, "35=8|")?)?;
-    assert_eq!(rt; number, 3);
-    assert_eq!(rt; (log.series(), log.len()), (2, 7));
-    assert_eq!(rt; (log.len_of(1), log.len_of(2)), (Some(4), Some(3)));
+    same(&rt, &number, &3);
+    same(&rt, &(log.series(), log.len()), &(2, 7));
+    same(&rt, &(log.len_of(1), log.len_of(2)), &(Some(4), Some(3)));
     Ok(())
 }
 
@@ -186,12 +184,12 @@ fn a_body_stands_at_its_position(rt: HostRuntime) -> Result<(), Fail> {
     log.reserve(rt.alloc(), 2000)?;
     for pos in 0..count {
         let body = Vec::from_slice(rt.alloc(), &pos.to_le_bytes())?;
-        assert_eq!(rt; log.push(rt.alloc(), body)?, pos);
+        same(&rt, &log.push(rt.alloc(), body)?, &pos);
     }
-    assert_eq!(rt; log.len(), count);
+    same(&rt, &log.len(), &count);
     assert!(rt; log.body(count).is_none());
     let found = found_bodies::<Brand>(&log, count.saturating_add(9), Blank::new(1));
-    assert_eq!(rt; found, count);
+    same(&rt, &found, &count);
     Ok(())
 }
 
@@ -213,8 +211,8 @@ fn rising(alloc: Global, count: u64, each: u64) -> Result<OutLog, NoMemory>
 #[test]
 fn a_reserved_log_takes_entries_and_series(rt: HostRuntime) -> Result<(), Fail> {
     let log = rising(rt.alloc(), 1500, 100)?;
-    assert_eq!(rt; (log.series(), log.len()), (15, 1500));
-    assert_eq!(rt; (log.len_of(15), log.len_of(16)), (Some(100), None));
+    same(&rt, &(log.series(), log.len()), &(15, 1500));
+    same(&rt, &(log.len_of(15), log.len_of(16)), &(Some(100), None));
     Ok(())
 }
 
@@ -236,7 +234,12 @@ fn an_entry_is_the_same_in_every_later_log(rt: HostRuntime) -> Result<(), Fail> 
     for count in [2000, 2049, 3000] {
         let log = rising(rt.alloc(), count, 500)?;
         for (series, number, want) in rows {
-            assert_eq!(rt; moment_of(&log, series, number), want, "{series}:{number}");
+            same_at(
+                &rt,
+                &moment_of(&log, series, number),
+                &want,
+                &(series, number),
+            );
         }
     }
     Ok(())

@@ -2,6 +2,7 @@
 ghost use Rattle.std.specs.Prelude.{◌≡◌, ◌<◌, ◌≤◌, length};
 
 use crate::cases::{MORNING, Rule, entry, generated};
+use crate::checks::same_at;
 use crate::plain::plain_plan;
 use gate_io::NoMemory;
 use message_log::{LAST_SERIES, OutEntry, OutLog};
@@ -30,10 +31,11 @@ fn compare(
             let last = j.saturating_mul(step).saturating_add(i / 3);
             let got = plan(alloc, log, series, begin, last, 5)?;
             let want = plain_plan(alloc, entries, series, begin, last, 5)?;
-            assert_eq!(rt;
-                got.as_slice(),
-                want.as_slice(),
-                "series {series}: {begin} to {last} of {count}"
+            same_at(
+                rt,
+                &got.as_slice(),
+                &want.as_slice(),
+                &(series, begin, last, count),
             );
         }
     }
@@ -49,7 +51,7 @@ fn compare_all(rt: &impl Abort, alloc: Global, count: u64, rule: Rule) -> Result
         compare(rt, alloc, &both.log, series, entries.as_slice())?;
         series += 1;
     }
-    assert_eq!(rt; series, both.log.series());
+    assert!(rt; series == both.log.series());
     compare(rt, alloc, &both.log, series, both.present.as_slice())
 }
 
@@ -128,7 +130,7 @@ fn plans_worked_by_hand(rt: HostRuntime) -> Result<(), Fail> {
     ];
     for (series, begin, last, want) in rows {
         let got = planned(rt.alloc(), &log, series, begin, last)?;
-        assert_eq!(rt; got.as_str(), want, "series {series}: {begin} to {last}");
+        same_at(&rt, &got.as_str(), &want, &(series, begin, last));
     }
     Ok(())
 }
@@ -138,7 +140,7 @@ fn nothing_is_planned_outside_the_log(rt: HostRuntime) -> Result<(), Fail> {
     let log = morning(rt.alloc())?;
     for (begin, last) in [(5, 0), (0, 0), (0, 4), (3, 2), (7, 9)] {
         let none = planned(rt.alloc(), &log, 1, begin, last)?;
-        assert_eq!(rt; none.as_str(), "", "from {begin} to {last}");
+        same_at(&rt, &none.as_str(), &"", &(begin, last));
     }
     Ok(())
 }

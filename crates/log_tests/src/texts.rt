@@ -1,5 +1,6 @@
 //! The text of each kind of item, by rows worked by hand, and its frame.
 use crate::cases::{MORNING, entry, soh};
+use crate::checks::{same, same_at};
 use fix_frame::{is_body, write_frame};
 use gate_io::{Bytes, LAST_MOMENT, NoMemory};
 use message_log::{LAST_SERIES, OutEntry, OutLog};
@@ -119,7 +120,7 @@ fn items_are_written(rt: HostRuntime) -> Result<(), Fail> {
     ];
     for (item, want) in rows {
         let got = told(rt.alloc(), item)?;
-        assert_eq!(rt; got.as_str(), want, "{item:?}");
+        same_at(&rt, &got.as_str(), &want, &item);
     }
     Ok(())
 }
@@ -160,10 +161,10 @@ fn long_text(alloc: Global) -> Result<Vec<u8>, NoMemory> {
 fn the_longest_body_is_framed(rt: HostRuntime) -> Result<(), Fail> {
     let text = long_text(rt.alloc())?;
     // 49, 56 and 34 take 4 + 32, 4 + 32 and 5 bytes; 43, 52 and 122 take 5, 25 and 26
-    assert_eq!(rt; text.len(), 8192 + 36 + 36 + 5 + 56);
+    same(&rt, &text.len(), &(8192 + 36 + 36 + 5 + 56));
     assert!(rt; is_body(&text));
     let frame = write_frame(rt.alloc(), &text)?;
     // `8=FIX.4.4|`, `9=8325|` and `10=000|`
-    assert_eq!(rt; frame.len(), 8325 + 10 + 7 + 7);
+    same(&rt, &frame.len(), &(8325 + 10 + 7 + 7));
     Ok(())
 }

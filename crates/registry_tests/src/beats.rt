@@ -1,6 +1,7 @@
 //! Beats worked by hand.
 ghost use Rattle.std.specs.Prelude.{◌≡◌, ◌<◌, ◌≤◌, length};
 
+use crate::checks::{same, same_at};
 use library_clock::{Expired, Watch};
 use std::test::Fail;
 
@@ -31,13 +32,14 @@ fn beats_worked_by_hand(rt: HostRuntime) -> Result<(), Fail> {
             Some(since) => Some(Expired { beat, since }),
             None => None,
         };
-        assert_eq!(rt;
-            watch.note(library, beat, moment),
-            want,
-            "library {library} at {moment}"
+        same_at(
+            &rt,
+            &watch.note(library, beat, moment),
+            &want,
+            &(library, moment),
         );
     }
     let mut patient = Watch::new(rt.alloc(), 1, MOST, 1)?;
-    assert_eq!(rt; patient.note(1, 0, MOST), None);
+    same(&rt, &patient.note(1, 0, MOST), &None);
     Ok(())
 }

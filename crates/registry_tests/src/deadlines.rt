@@ -1,6 +1,7 @@
 //! Deadlines worked by hand, and against a plain scan over generated calls.
 ghost use Rattle.std.specs.Prelude.{◌≡◌, ◌<◌, length};
 
+use crate::checks::same_at;
 use crate::draw::Draw;
 use gate_io::NoMemory;
 use library_clock::Deadlines;
@@ -39,7 +40,7 @@ impl Both {
         for _ in 0..=SESSIONS {
             let want = take_first(&mut self.plain, moment);
             let got = self.fast.due(moment);
-            assert_eq!(rt; got.map(usize::from), want, "at {moment}");
+            same_at(rt, &got.map(usize::from), &want, &moment);
             if want.is_none() {
                 return;
             }
@@ -137,7 +138,7 @@ fn deadlines_worked_by_hand(rt: HostRuntime) -> Result<(), Fail> {
                 deadlines.set(rt.alloc(), s, at)?;
             }
             Row::Due(moment, want) => {
-                assert_eq!(rt; deadlines.due(moment), want, "at {moment}");
+                same_at(&rt, &deadlines.due(moment), &want, &moment);
             }
         }
     }

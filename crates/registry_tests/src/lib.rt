@@ -6,6 +6,8 @@ mod acts;
 #[cfg(test)]
 mod beats;
 #[cfg(test)]
+mod checks;
+#[cfg(test)]
 mod deadlines;
 #[cfg(test)]
 mod draw;

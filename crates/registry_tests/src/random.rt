@@ -1,5 +1,6 @@
 //! The registry against the plain program, over generated calls.
 use crate::acts::{Act, Answer, play};
+use crate::checks::{holds, same, same_at};
 use crate::draw::Draw;
 use crate::plain::{GiveUp, lines_of, state_of, step, word_of};
 use lease_core::{Entry, Event, Registry, Reply, Shown, Standing, Why, Word};
@@ -114,7 +115,7 @@ impl Both {
             return Ok(());
         }
         let want = self.expected(act)?;
-        assert_eq!(rt; got, want, "{act:?}");
+        same_at(rt, &got, &want, &act);
         self.compare(rt)
     }
 
@@ -122,19 +123,20 @@ impl Both {
         let registry = &self.registry;
         let state = state_of(self.alloc, &self.entries)?;
         let lines = lines_of(self.alloc, &self.entries)?;
-        assert_eq!(rt; registry.entries(), self.entries.as_slice());
-        assert_eq!(rt; registry.holdings(), state.holdings());
-        assert_eq!(rt; registry.owner().0, state.owner());
-        assert_eq!(rt; registry.owner().1 as usize, lines.len());
-        assert_eq!(rt; registry.reserved(), state.reserved());
-        assert_eq!(rt; registry.bound(), state.bound());
-        assert_eq!(rt; registry.series().0 as usize, state.series().len());
-        assert_eq!(rt;
-            registry.series().1.checked_add(1),
-            state.next_number().ok()
+        same(rt, &registry.entries(), &self.entries.as_slice());
+        same(rt, &registry.holdings(), &state.holdings());
+        same(rt, &registry.owner().0, &state.owner());
+        same(rt, &(registry.owner().1 as usize), &lines.len());
+        same(rt, &registry.reserved(), &state.reserved());
+        same(rt, &registry.bound(), &state.bound());
+        same(rt, &(registry.series().0 as usize), &state.series().len());
+        same(
+            rt,
+            &registry.series().1.checked_add(1),
+            &state.next_number().ok(),
         );
-        assert_eq!(rt; registry.in_len(), state.inbound());
-        assert_eq!(rt; registry.word(), word_of(&lines)?);
+        same(rt, &registry.in_len(), &state.inbound());
+        same(rt, &registry.word(), &word_of(&lines)?);
         Ok(())
     }
 
@@ -185,7 +187,7 @@ fn generated_calls_are_answered_alike(rt: HostRuntime) -> Result<(), Fail> {
             kinds.note(*entry);
         }
     }
-    assert!(rt; kinds.all_seen(), "{kinds:?}");
+    holds(&rt, kinds.all_seen(), &kinds);
     Ok(())
 }
 

@@ -1,7 +1,8 @@
 //! Entries that are read back: which may stand next, and what goes on behind them.
-ghost use Rattle.std.specs.Prelude.{◌<◌, IfOk};
+ghost use Rattle.std.specs.Prelude.{◌≡◌, ◌<◌, IfOk};
 
 use crate::acts::{Act, Answer, play, word};
+use crate::checks::{holds, same, same_at};
 use crate::draw::Draw;
 use crate::plain::{GiveUp, may_follow, state_of};
 use crate::random::Both;
@@ -24,7 +25,7 @@ fn read_back(
     for entry in entries {
         recovery.reserve(1)?;
         let accepted = recovery.accepts(entry);
-        assert!(rt; accepted, "{entry:?}");
+        holds(rt, accepted, &entry);
         recovery.record(*entry);
     }
     recovery.reserve(1)?;
@@ -137,7 +138,7 @@ fn entries_stand_where_they_may(rt: HostRuntime) -> Result<(), Fail> {
     for (n, entry, may) in rows_of_handing() {
         let before = HANDED.get(..n).unwrap_or(&HANDED);
         let recovery = read_back(&rt, rt.alloc(), 2, before)?;
-        assert_eq!(rt; recovery.accepts(&entry), may, "{entry:?} behind {n}");
+        same_at(&rt, &recovery.accepts(&entry), &may, &(entry, n));
     }
     Ok(())
 }
@@ -169,7 +170,7 @@ fn rows_of_refusals() -> [(u32, Entry, bool); 9] {
 fn refusals_stand_where_their_cause_does(rt: HostRuntime) -> Result<(), Fail> {
     for (limit, entry, may) in rows_of_refusals() {
         let recovery = read_back(&rt, rt.alloc(), limit, &HANDED)?;
-        assert_eq!(rt; recovery.accepts(&entry), may, "{entry:?} of {limit}");
+        same_at(&rt, &recovery.accepts(&entry), &may, &(entry, limit));
     }
     Ok(())
 }
@@ -179,13 +180,14 @@ fn a_hold_that_a_cut_run_left_out_follows(rt: HostRuntime) -> Result<(), Fail> {
     let before = HANDED.get(..5).unwrap_or(&HANDED);
     let recovery = read_back(&rt, rt.alloc(), 2, before)?;
     let mut registry = Registry::resume(recovery, 5000);
-    assert_eq!(rt; registry.entries(), HANDED.as_slice());
-    assert_eq!(rt; registry.reserved(), Some((2, 5000)));
-    assert_eq!(rt; registry.bound(), Some(7));
-    assert_eq!(rt; registry.word(), word(1, 2, Standing::Released, 1));
-    assert_eq!(rt;
-        play(&mut registry, Act::Request(2, 1, 0))?,
-        Answer::To(Reply::Granted { lease: 2, start: 0 })
+    same(&rt, &registry.entries(), &HANDED.as_slice());
+    same(&rt, &registry.reserved(), &Some((2, 5000)));
+    same(&rt, &registry.bound(), &Some(7));
+    same(&rt, &registry.word(), &word(1, 2, Standing::Released, 1));
+    same(
+        &rt,
+        &play(&mut registry, Act::Request(2, 1, 0))?,
+        &Answer::To(Reply::Granted { lease: 2, start: 0 }),
     );
     Ok(())
 }
@@ -218,24 +220,37 @@ fn rows_behind_handing() -> [(Act, Answer); 7] {
     ]
 }
 
-#[test]
-fn the_entries_of_a_registry_are_read_back_whole(rt: HostRuntime) -> Result<(), Fail> {
-    let mut registry = Registry::new(rt.alloc(), 3)?;
+/// A registry whose entries are the six above.
+fn handed_on(alloc: Global) -> Result<Registry, NoMemory>
+    ensures { IfOk result (λ registry. registry.leases ≡ 3) }
+{
+    let mut registry = Registry::new(alloc, 3)?;
     play(&mut registry, Act::Bind(7))?;
     play(&mut registry, Act::Admin)?;
     play(&mut registry, Act::Request(1, 1, 0))?;
     let handed_on = word(1, 2, Standing::Released, 1);
     play(&mut registry, Act::Show(handed_on, 5000))?;
-    let recovery = Recovery::of(rt.alloc(), 3, registry.entries())?;
-    assert_eq!(rt; recovery.entries(), HANDED.as_slice());
-    let mut resumed = Registry::resume(recovery, 9);
+    Ok(registry)
+}
+
+fn answer_behind_handing(rt: &impl Abort, registry: &mut Registry) -> Result<(), NoMemory> {
     for (act, wanted) in rows_behind_handing() {
-        assert_eq!(rt; play(&mut registry, act)?, wanted, "{act:?}");
-        assert_eq!(rt; play(&mut resumed, act)?, wanted, "{act:?}, resumed");
+        same_at(rt, &play(registry, act)?, &wanted, &act);
     }
-    assert_eq!(rt; resumed.entries(), registry.entries());
-    assert_eq!(rt; resumed.holdings(), registry.holdings());
-    assert_eq!(rt; resumed.word(), word(2, 2, Standing::Revoked, 2));
+    Ok(())
+}
+
+#[test]
+fn the_entries_of_a_registry_are_read_back_whole(rt: HostRuntime) -> Result<(), Fail> {
+    let mut registry = handed_on(rt.alloc())?;
+    let recovery = Recovery::of(rt.alloc(), 3, registry.entries())?;
+    same(&rt, &recovery.entries(), &HANDED.as_slice());
+    let mut resumed = Registry::resume(recovery, 9);
+    answer_behind_handing(&rt, &mut registry)?;
+    answer_behind_handing(&rt, &mut resumed)?;
+    same(&rt, &resumed.entries(), &registry.entries());
+    same(&rt, &resumed.holdings(), &registry.holdings());
+    same(&rt, &resumed.word(), &word(2, 2, Standing::Revoked, 2));
     Ok(())
 }
 
@@ -245,18 +260,19 @@ fn a_lease_that_ran_is_taken_back(rt: HostRuntime) -> Result<(), Fail> {
     let before = HANDED.get(..4).unwrap_or(&HANDED);
     let recovery = read_back(&rt, rt.alloc(), 2, before)?;
     let mut registry = Registry::resume(recovery, 5000);
-    assert_eq!(rt; registry.entries(), before);
-    assert_eq!(rt; registry.owner(), (1, 1));
+    same(&rt, &registry.entries(), &before);
+    same(&rt, &registry.owner(), &(1, 1));
     let stood = registry.word();
     play(&mut registry, Act::Timeout(stood, 5000))?;
     play(&mut registry, Act::Leave(7))?;
-    assert_eq!(rt; registry.word(), word(1, 1, Standing::Revoked, 1));
-    assert_eq!(rt;
-        play(&mut registry, Act::Request(2, 1, 0))?,
-        Answer::To(Reply::Granted { lease: 2, start: 0 })
+    same(&rt, &registry.word(), &word(1, 1, Standing::Revoked, 1));
+    same(
+        &rt,
+        &play(&mut registry, Act::Request(2, 1, 0))?,
+        &Answer::To(Reply::Granted { lease: 2, start: 0 }),
     );
-    assert_eq!(rt; registry.out_len(), 2);
-    assert_eq!(rt; registry.series(), (1, 2));
+    same(&rt, &registry.out_len(), &2);
+    same(&rt, &registry.series(), &(1, 2));
     Ok(())
 }
 
@@ -325,7 +341,7 @@ fn compare(
     let recovery = read_back(rt, alloc, limit, &both.entries)?;
     let state = state_of(alloc, &both.entries)?;
     let may = may_follow(limit, &state, entry)?;
-    assert_eq!(rt; recovery.accepts(&entry), may, "{entry:?}");
+    same_at(rt, &recovery.accepts(&entry), &may, &entry);
     Ok(may)
 }
 
@@ -343,7 +359,7 @@ fn drawn_entries_are_accepted_alike(rt: HostRuntime) -> Result<(), Fail> {
             }
         }
     }
-    assert!(rt; 300 < may && may < 2100, "{may}");
+    holds(&rt, 300 < may && may < 2100, &may);
     Ok(())
 }
 

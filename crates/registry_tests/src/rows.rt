@@ -1,5 +1,6 @@
 //! Rows worked by hand: calls, their answers, and the entries and holdings in the end.
 use crate::acts::{Act, Answer, play, word};
+use crate::checks::{same, same_at};
 use gate_io::NoMemory;
 use lease_core::{Entry, Holding, MOST_LEASES, Registry, Reply, Shown, Standing, Why};
 use std::alloc::Global;
@@ -113,10 +114,10 @@ fn follow(
     let mut registry = Registry::new(alloc, limit)?;
     for call in calls {
         let got = play(&mut registry, call.0)?;
-        assert_eq!(rt; got, call.1, "{call:?}");
+        same_at(rt, &got, &call.1, &call);
     }
-    assert_eq!(rt; registry.entries(), entries);
-    assert_eq!(rt; registry.holdings(), holdings);
+    same(rt, &registry.entries(), &entries);
+    same(rt, &registry.holdings(), &holdings);
     Ok(())
 }
 

@@ -1,5 +1,6 @@
 //! Words as numbers, lengths, and what messages carry.
 use crate::acts::{Act, play, word};
+use crate::checks::same;
 use gate_io::Bytes;
 use lease_core::{Command, Entry, Notice, Record, Registry, Standing, read_word, write_word};
 use std::test::Fail;
@@ -18,13 +19,13 @@ fn words_are_numbers_both_ways(rt: HostRuntime) {
         ),
     ];
     for (n, w) in rows {
-        assert_eq!(rt; read_word(n), w);
+        same(&rt, &read_word(n), &w);
         assert!(rt; w.lease < 1 << 24 && w.owner < 64);
-        assert_eq!(rt; write_word(w), n);
+        same(&rt, &write_word(w), &n);
     }
     // Where both flags are set the session was given back.
     let both = 1_116_691_496_960 + (1 << 32) + (1 << 33) + 7;
-    assert_eq!(rt; read_word(both), word(1, 1, Standing::Released, 7));
+    same(&rt, &read_word(both), &word(1, 1, Standing::Released, 7));
 }
 
 #[test]
@@ -43,12 +44,12 @@ fn lengths_count_all_series(rt: HostRuntime) -> Result<(), Fail> {
     ] {
         play(&mut registry, act)?;
     }
-    assert_eq!(rt; registry.owner(), (0, 1));
-    assert_eq!(rt; registry.in_len(), 1);
-    assert_eq!(rt; registry.out_len(), 4);
-    assert_eq!(rt; registry.series(), (2, 1));
-    assert_eq!(rt; registry.reserved(), Some((9, 5000)));
-    assert_eq!(rt; registry.word(), word(1, 9, Standing::Released, 2));
+    same(&rt, &registry.owner(), &(0, 1));
+    same(&rt, &registry.in_len(), &1);
+    same(&rt, &registry.out_len(), &4);
+    same(&rt, &registry.series(), &(2, 1));
+    same(&rt, &registry.reserved(), &Some((9, 5000)));
+    same(&rt, &registry.word(), &word(1, 9, Standing::Released, 2));
     Ok(())
 }
 
@@ -63,7 +64,7 @@ fn messages_carry_what_was_put_in(rt: HostRuntime) -> Result<(), Fail> {
     };
     match notice {
         Notice::Message { bytes, .. } => {
-            assert_eq!(rt; bytes.into_inner().as_slice(), b"35=8|".as_slice())
+            same(&rt, &bytes.into_inner().as_slice(), &b"35=8|".as_slice())
         }
         Notice::Granted { .. } | Notice::Refused { .. } => assert!(rt; false),
     }
@@ -74,9 +75,13 @@ fn messages_carry_what_was_put_in(rt: HostRuntime) -> Result<(), Fail> {
         body: Bytes::of(Vec::from_slice(rt.alloc(), b"35=8|")?),
         expected: 5,
     };
-    assert_eq!(rt; record.entry, Entry::Arrive { pos: 3 });
-    assert_eq!(rt; record.body.into_inner().as_slice(), b"35=8|".as_slice());
+    same(&rt, &record.entry, &Entry::Arrive { pos: 3 });
+    same(
+        &rt,
+        &record.body.into_inner().as_slice(),
+        &b"35=8|".as_slice(),
+    );
     let done = Command::Done { finished: true };
-    assert_ne!(rt; done, Command::Done { finished: false });
+    assert!(rt; done != Command::Done { finished: false });
     Ok(())
 }

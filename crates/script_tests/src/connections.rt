@@ -1,6 +1,7 @@
 //! Which connections a line may name.
 
 use crate::answers::{error_of, fault};
+use crate::checks::{same, same_at};
 use script_text::{ScriptKind, read_script};
 use std::alloc::Global;
 use std::test::Fail;
@@ -31,7 +32,11 @@ fn dialled_connections_are_numbered_from_1024(rt: HostRuntime) -> Result<(), Fai
     for (connects, takes, c, line) in made {
         let text = text_of(rt.alloc(), connects, takes, c)?;
         let script = read_script(rt.alloc(), &text, false)?;
-        assert_eq!(rt; script.step_lines.as_slice().last().copied(), Some(line));
+        same(
+            &rt,
+            &script.step_lines.as_slice().last().copied(),
+            &Some(line),
+        );
     }
     let not_made = [
         (0, 0, 0, 1),
@@ -47,9 +52,10 @@ fn dialled_connections_are_numbered_from_1024(rt: HostRuntime) -> Result<(), Fai
     ];
     for (connects, takes, c, line) in not_made {
         let text = text_of(rt.alloc(), connects, takes, c)?;
-        assert_eq!(rt;
-            error_of(&rt, &text, false),
-            fault(line, ScriptKind::OutOfRange)
+        same(
+            &rt,
+            &error_of(&rt, &text, false),
+            &fault(line, ScriptKind::OutOfRange),
         );
     }
     Ok(())
@@ -70,16 +76,18 @@ fn each_fault_of_a_take(rt: HostRuntime) -> Result<(), Fail> {
         ("take\nfinish 4294968320", false, 2, ScriptKind::OutOfRange),
     ];
     for (text, serving, line, kind) in cases {
-        assert_eq!(rt;
-            error_of(&rt, text.as_bytes(), serving),
-            fault(line, kind),
-            "{text:?}"
+        same_at(
+            &rt,
+            &error_of(&rt, text.as_bytes(), serving),
+            &fault(line, kind),
+            &text,
         );
     }
     let text = text_of(rt.alloc(), 0, 1_025, 0)?;
-    assert_eq!(rt;
-        error_of(&rt, &text, false),
-        fault(1_025, ScriptKind::OutOfRange)
+    same(
+        &rt,
+        &error_of(&rt, &text, false),
+        &fault(1_025, ScriptKind::OutOfRange),
     );
     Ok(())
 }

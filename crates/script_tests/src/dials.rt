@@ -1,6 +1,7 @@
 //! Sessions that dial.
 
 use crate::answers::{error_of, fault};
+use crate::checks::{holds, same, same_at};
 use script_text::{DialTo, ScriptKind, read_script};
 use std::test::Fail;
 
@@ -38,10 +39,11 @@ fn each_fault_of_a_dial(rt: HostRuntime) {
     ];
     for (text, kind) in cases {
         for serving in [false, true] {
-            assert_eq!(rt;
-                error_of(&rt, text.as_bytes(), serving),
-                fault(1, kind),
-                "{text:?}"
+            same_at(
+                &rt,
+                &error_of(&rt, text.as_bytes(), serving),
+                &fault(1, kind),
+                &text,
             );
         }
     }
@@ -79,10 +81,11 @@ fn a_dial_is_one_session_more(rt: HostRuntime) {
         ),
     ];
     for (text, line, kind) in cases {
-        assert_eq!(rt;
-            error_of(&rt, text.as_bytes(), false),
-            fault(line, kind),
-            "{text:?}"
+        same_at(
+            &rt,
+            &error_of(&rt, text.as_bytes(), false),
+            &fault(line, kind),
+            &text,
         );
     }
 }
@@ -102,21 +105,22 @@ fn a_dial_is_read_as_it_is_written(rt: HostRuntime) -> Result<(), Fail> {
         C23456789012345678901234567890b2 86400 3600000\n";
     let script = read_script(rt.alloc(), text, false)?;
     let [first, second, third] = script.config.dialled.as_slice() else {
-        assert!(rt; false, "three sessions");
+        holds(&rt, false, &"three sessions");
         return Ok(());
     };
     assert!(rt; dials(first, "hub:1", 1, 1));
     assert!(rt; second.is_none());
     let address = "C23456789012345678901234567890b2";
     assert!(rt; dials(third, address, 86_400, 3_600_000));
-    assert_eq!(rt; script.session_lines.as_slice(), [1, 2, 3].as_slice());
+    same(&rt, &script.session_lines.as_slice(), &[1, 2, 3].as_slice());
     let [names, _, _] = script.config.names.as_slice() else {
-        assert!(rt; false, "three sessions");
+        holds(&rt, false, &"three sessions");
         return Ok(());
     };
-    assert_eq!(rt;
-        (names.us.as_slice(), names.them.as_slice()),
-        (b"GATE".as_slice(), b"HUB".as_slice())
+    same(
+        &rt,
+        &(names.us.as_slice(), names.them.as_slice()),
+        &(b"GATE".as_slice(), b"HUB".as_slice()),
     );
     Ok(())
 }
@@ -129,10 +133,11 @@ fn names_and_addresses_have_32_bytes_at_most(rt: HostRuntime) {
         "dial GATE HUB C23456789012345678901234567890b23 30 1000",
     ];
     for text in texts {
-        assert_eq!(rt;
-            error_of(&rt, text.as_bytes(), false),
-            fault(1, ScriptKind::BadText),
-            "{text:?}"
+        same_at(
+            &rt,
+            &error_of(&rt, text.as_bytes(), false),
+            &fault(1, ScriptKind::BadText),
+            &text,
         );
     }
 }
@@ -141,19 +146,21 @@ fn names_and_addresses_have_32_bytes_at_most(rt: HostRuntime) {
 fn dials_are_for_serve_alone(rt: HostRuntime) -> Result<(), Fail> {
     for (text, dials) in [("", 0), ("dials 0", 0), ("dials 7\ndials 1024", 1_024)] {
         let script = read_script(rt.alloc(), text.as_bytes(), true)?;
-        assert_eq!(rt; script.config.dials, dials);
-        assert_eq!(rt; script.config.connections, 0);
+        same(&rt, &script.config.dials, &dials);
+        same(&rt, &script.config.connections, &0);
     }
     for text in ["dials 0", "dials 1024"] {
-        assert_eq!(rt;
-            error_of(&rt, text.as_bytes(), false),
-            fault(1, ScriptKind::Misplaced)
+        same(
+            &rt,
+            &error_of(&rt, text.as_bytes(), false),
+            &fault(1, ScriptKind::Misplaced),
         );
     }
     let script = read_script(rt.alloc(), b"connect\ntake\nconnect\n", false)?;
-    assert_eq!(rt;
-        (script.config.dials, script.config.connections),
-        (1_024, 2)
+    same(
+        &rt,
+        &(script.config.dials, script.config.connections),
+        &(1_024, 2),
     );
     Ok(())
 }

@@ -1,6 +1,7 @@
 //! Each kind of fault, and which of several counts.
 
 use crate::answers::{error_of, fault};
+use crate::checks::same_at;
 use script_text::ScriptKind;
 
 #[test]
@@ -60,10 +61,11 @@ fn each_kind_of_fault(rt: HostRuntime) {
         ),
     ];
     for (text, line, kind) in cases {
-        assert_eq!(rt;
-            error_of(&rt, text.as_bytes(), false),
-            fault(line, kind),
-            "{text:?}"
+        same_at(
+            &rt,
+            &error_of(&rt, text.as_bytes(), false),
+            &fault(line, kind),
+            &text,
         );
     }
 }
@@ -128,10 +130,11 @@ fn of_two_faults_the_least_and_the_first(rt: HostRuntime) {
         ("\n\nturns", false, 3, ScriptKind::UnknownWord),
     ];
     for (text, serving, line, kind) in cases {
-        assert_eq!(rt;
-            error_of(&rt, text.as_bytes(), serving),
-            fault(line, kind),
-            "{text:?}"
+        same_at(
+            &rt,
+            &error_of(&rt, text.as_bytes(), serving),
+            &fault(line, kind),
+            &text,
         );
     }
 }
@@ -147,10 +150,11 @@ fn lines_of_the_other_command_are_misplaced(rt: HostRuntime) {
         ("turn\n", true, 1),
     ];
     for (text, serving, line) in cases {
-        assert_eq!(rt;
-            error_of(&rt, text.as_bytes(), serving),
-            fault(line, ScriptKind::Misplaced),
-            "{text:?}"
+        same_at(
+            &rt,
+            &error_of(&rt, text.as_bytes(), serving),
+            &fault(line, ScriptKind::Misplaced),
+            &text,
         );
     }
 }

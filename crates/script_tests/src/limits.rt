@@ -1,6 +1,7 @@
 //! Scripts at their limits, and one beyond.
 
 use crate::answers::{error_of, fault};
+use crate::checks::same;
 use script_text::{LONGEST_SCRIPT, ScriptKind, read_script};
 use std::alloc::Global;
 use std::test::Fail;
@@ -10,9 +11,13 @@ fn the_longest_script_and_one_byte_more(rt: HostRuntime) -> Result<(), Fail> {
     let alloc = rt.alloc();
     let mut text = vec![in alloc; b'\n'; LONGEST_SCRIPT]?;
     let script = read_script(alloc, &text, false)?;
-    assert_eq!(rt; script.steps.as_slice().len(), 0);
+    same(&rt, &script.steps.as_slice().len(), &0);
     text.push(b'\r')?;
-    assert_eq!(rt; error_of(&rt, &text, false), fault(0, ScriptKind::TooLong));
+    same(
+        &rt,
+        &error_of(&rt, &text, false),
+        &fault(0, ScriptKind::TooLong),
+    );
     Ok(())
 }
 
@@ -29,11 +34,12 @@ fn frame_script(alloc: Global, length: usize) -> Result<Vec<u8>, Fail> {
 fn the_longest_frame_and_one_byte_more(rt: HostRuntime) -> Result<(), Fail> {
     // `8=FIX.4.4|9=65511|`, the body, and `10=ccc|` are 65,536 bytes.
     let script = read_script(rt.alloc(), &frame_script(rt.alloc(), 65_511)?, false)?;
-    assert_eq!(rt; script.steps.as_slice().len(), 2);
+    same(&rt, &script.steps.as_slice().len(), &2);
     let longer = frame_script(rt.alloc(), 65_512)?;
-    assert_eq!(rt;
-        error_of(&rt, &longer, false),
-        fault(2, ScriptKind::BadText)
+    same(
+        &rt,
+        &error_of(&rt, &longer, false),
+        &fault(2, ScriptKind::BadText),
     );
     Ok(())
 }
@@ -58,12 +64,13 @@ fn sessions_and_connections_at_their_limits(rt: HostRuntime) -> Result<(), Fail>
         text.extend_from_slice(b"connect\n")?;
     }
     let script = read_script(alloc, &text, false)?;
-    assert_eq!(rt; script.config.names.as_slice().len(), 64);
-    assert_eq!(rt; script.steps.as_slice().len(), 1_024);
+    same(&rt, &script.config.names.as_slice().len(), &64);
+    same(&rt, &script.steps.as_slice().len(), &1_024);
     text.extend_from_slice(b"finish 1023\nconnect\n")?;
-    assert_eq!(rt;
-        error_of(&rt, &text, false),
-        fault(1_090, ScriptKind::OutOfRange)
+    same(
+        &rt,
+        &error_of(&rt, &text, false),
+        &fault(1_090, ScriptKind::OutOfRange),
     );
     let mut text = Vec::new(alloc);
     for i in 0..64 {
@@ -75,9 +82,10 @@ fn sessions_and_connections_at_their_limits(rt: HostRuntime) -> Result<(), Fail>
     ] {
         let mut text = Vec::from_slice(alloc, &text)?;
         text.extend_from_slice(more)?;
-        assert_eq!(rt;
-            error_of(&rt, &text, false),
-            fault(65, ScriptKind::OutOfRange)
+        same(
+            &rt,
+            &error_of(&rt, &text, false),
+            &fault(65, ScriptKind::OutOfRange),
         );
     }
     Ok(())

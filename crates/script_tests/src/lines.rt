@@ -1,5 +1,6 @@
 //! Each line is read as it is written.
 
+use crate::checks::same;
 use fix_fields::stamp_text;
 use gate_io::LAST_MOMENT;
 use script_text::{LibStep, Script, Step, push_printed, read_script};
@@ -74,13 +75,14 @@ fn each_line_of_replay_is_read_as_it_is_written(rt: HostRuntime) -> Result<(), F
     let mut text = Vec::from_slice(rt.alloc(), b"# all lines of replay\n\nlibraries 16\n")?;
     text.extend_from_slice(steps.as_bytes())?;
     let script = read_script(rt.alloc(), &text, false)?;
-    assert_eq!(rt;
-        steps_text(rt.alloc(), &script)?.as_slice(),
-        steps.as_bytes()
+    same(
+        &rt,
+        &steps_text(rt.alloc(), &script)?.as_slice(),
+        &steps.as_bytes(),
     );
     let lines = script.step_lines.as_slice();
-    assert_eq!(rt; lines.first().copied(), Some(4));
-    assert_eq!(rt; lines.last().copied(), Some(28));
+    same(&rt, &lines.first().copied(), &Some(4));
+    same(&rt, &lines.last().copied(), &Some(28));
     Ok(())
 }
 
@@ -90,13 +92,15 @@ fn each_line_of_serve_is_read_as_it_is_written(rt: HostRuntime) -> Result<(), Fa
     let mut text = Vec::from_slice(rt.alloc(), b"connections 1024\ndials 1024\nlibraries 2\n")?;
     text.extend_from_slice(steps.as_bytes())?;
     let script = read_script(rt.alloc(), &text, true)?;
-    assert_eq!(rt;
-        (script.config.connections, script.config.dials),
-        (1_024, 1_024)
+    same(
+        &rt,
+        &(script.config.connections, script.config.dials),
+        &(1_024, 1_024),
     );
-    assert_eq!(rt;
-        steps_text(rt.alloc(), &script)?.as_slice(),
-        steps.as_bytes()
+    same(
+        &rt,
+        &steps_text(rt.alloc(), &script)?.as_slice(),
+        &steps.as_bytes(),
     );
     Ok(())
 }
@@ -105,7 +109,7 @@ fn each_line_of_serve_is_read_as_it_is_written(rt: HostRuntime) -> Result<(), Fa
 fn the_last_line_may_lack_its_end(rt: HostRuntime) -> Result<(), Fail> {
     for (text, count) in [("", 0), ("turn", 1), ("turn\n", 1), ("turn\nturn", 2)] {
         let script = read_script(rt.alloc(), text.as_bytes(), false)?;
-        assert_eq!(rt; script.steps.as_slice().len(), count);
+        same(&rt, &script.steps.as_slice().len(), &count);
     }
     Ok(())
 }

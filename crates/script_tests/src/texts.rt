@@ -1,5 +1,6 @@
 //! Bytes as they are printed, and faults in words.
 
+use crate::checks::same;
 use gate_io::Bytes;
 use script_text::{ScriptError, ScriptKind, push_printed, read_text};
 use std::test::Fail;
@@ -15,17 +16,21 @@ fn texts_are_read_and_printed(rt: HostRuntime) -> Result<(), Fail> {
     ];
     for (text, bytes) in cases {
         let meant = read_text(rt.alloc(), text)?.map(Bytes::into_inner);
-        assert_eq!(rt; meant.ok_or("no text")?.as_slice(), bytes);
+        same(&rt, &meant.ok_or("no text")?.as_slice(), &bytes);
         let mut out = Vec::new(rt.alloc());
         push_printed(&mut out, bytes)?;
-        assert_eq!(rt; out.as_slice(), text);
+        same(&rt, &out.as_slice(), &text);
     }
     for text in [b"\\".as_slice(), b"\\7", b"\\7C", b"\\g0", b"a\\|"] {
         assert!(rt; read_text(rt.alloc(), text)?.is_none());
     }
     // An escape may stand for a byte that needs none.
     let meant = read_text(rt.alloc(), b"\\41\\01")?.map(Bytes::into_inner);
-    assert_eq!(rt; meant.ok_or("no text")?.as_slice(), b"A\x01".as_slice());
+    same(
+        &rt,
+        &meant.ok_or("no text")?.as_slice(),
+        &b"A\x01".as_slice(),
+    );
     Ok(())
 }
 
@@ -35,9 +40,10 @@ fn kinds_are_printed_in_words(rt: HostRuntime) -> Result<(), Fail> {
         line: 3,
         kind: ScriptKind::UnknownWord,
     };
-    assert_eq!(rt;
-        format!(in rt.alloc(); "{error}")?.as_str(),
-        "script line 3: unknown word"
+    same(
+        &rt,
+        &format!(in rt.alloc(); "{error}")?.as_str(),
+        &"script line 3: unknown word",
     );
     Ok(())
 }

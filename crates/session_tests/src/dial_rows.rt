@@ -1,8 +1,10 @@
 //! Rows of messages and ticks on a session that dials, worked by hand.
 
+use crate::checks::{holds, same, same_at};
 use crate::desk::{Desk, T, body, put_bytes};
+use crate::session_rows::{hears, ticks};
 use gate_io::{LAST_MOMENT, NoMemory};
-use session_core::{ANSWER_WAIT, Act, Admin, Session, admin_body};
+use session_core::{ANSWER_WAIT, Act, Admin, Effects, Session, admin_body};
 use std::alloc::Global;
 use std::process::Abort;
 use std::test::Fail;
@@ -80,8 +82,8 @@ fn follow_each(rt: &impl Abort, alloc: Global, rows: &[Row]) -> Result<(), NoMem
     for (text, want, expected) in rows {
         let mut desk = Desk::dialled(alloc, 7)?;
         let told = desk.receive(alloc, text, T)?;
-        assert_eq!(rt; told.as_str(), *want, "{text}");
-        assert_eq!(rt; desk.session.expected(), *expected, "{text}");
+        same_at(rt, &told.as_str(), &*want, &text);
+        same_at(rt, &desk.session.expected(), &*expected, &text);
     }
     Ok(())
 }
@@ -99,19 +101,13 @@ fn an_answer_is_taken(rt: HostRuntime) -> Result<(), Fail> {
     Ok(())
 }
 
-#[test]
-fn the_session_asks_with_its_logon(rt: HostRuntime) -> Result<(), Fail> {
-    let alloc = rt.alloc();
-    let us = body(alloc, "GATE")?;
-    let them = body(alloc, "BUYER")?;
-    let mut session = Session::dialling(alloc, us, them, 30, 1)?;
-    assert!(rt; session.due().is_none());
-    let effects = session.ask(alloc, T)?;
+/// Holds that the effects are a Logon with a HeartBtInt of 30 s, and what that says.
+fn ask_with_a_logon(rt: &impl Abort, alloc: Global, effects: &Effects) -> Result<(), NoMemory> {
     assert!(rt; effects.end.is_none());
-    assert_eq!(rt; effects.acts.as_slice().len(), 1);
+    same(rt, &effects.acts.as_slice().len(), &1);
     for act in effects.acts.as_slice() {
         let Act::Send(admin) = act else {
-            assert!(rt; false, "the act sends");
+            holds(rt, false, &"the act sends");
             return Ok(());
         };
         assert!(rt;
@@ -126,30 +122,40 @@ fn the_session_asks_with_its_logon(rt: HostRuntime) -> Result<(), Fail> {
         let mut text = String::new(alloc);
         let bytes = admin_body(alloc, admin, 1)?;
         put_bytes(&mut text, &bytes)?;
-        assert_eq!(rt; text.as_str(), "35=A|98=0|108=30|");
+        same(rt, &text.as_str(), &"35=A|98=0|108=30|");
     }
-    assert_eq!(rt; session.names().us.as_slice(), b"GATE".as_slice());
-    assert_eq!(rt; session.names().them.as_slice(), b"BUYER".as_slice());
-    assert_eq!(rt; session.due(), Some(T + ANSWER_WAIT));
+    Ok(())
+}
+
+#[test]
+fn the_session_asks_with_its_logon(rt: HostRuntime) -> Result<(), Fail> {
+    let alloc = rt.alloc();
+    let us = body(alloc, "GATE")?;
+    let them = body(alloc, "BUYER")?;
+    let mut session = Session::dialling(alloc, us, them, 30, 1)?;
+    assert!(rt; session.due().is_none());
+    let effects = session.ask(alloc, T)?;
+    ask_with_a_logon(&rt, alloc, &effects)?;
+    same(&rt, &session.names().us.as_slice(), &b"GATE".as_slice());
+    same(&rt, &session.names().them.as_slice(), &b"BUYER".as_slice());
+    same(&rt, &session.due(), &(Some(T + ANSWER_WAIT)));
     session.leave();
     assert!(rt; session.due().is_none());
     session.ask(alloc, T + 500)?;
-    assert_eq!(rt; session.due(), Some(T + 500 + ANSWER_WAIT));
+    same(&rt, &session.due(), &(Some(T + 500 + ANSWER_WAIT)));
     Ok(())
 }
 
 #[test]
 fn an_answer_that_stays_out(rt: HostRuntime) -> Result<(), Fail> {
     let mut desk = Desk::dialled(rt.alloc(), 1)?;
-    let told = desk.tick(rt.alloc(), T + 9_999)?;
-    assert_eq!(rt; told.as_str(), "");
+    ticks(&rt, rt.alloc(), &mut desk, 9_999, "")?;
     // What is queued meanwhile changes nothing.
     desk.session.sent(T + 9_000);
-    assert_eq!(rt; desk.session.due(), Some(T + 10_000));
+    same(&rt, &desk.session.due(), &(Some(T + 10_000)));
     let silent = format!(in rt.alloc(); "[end Silent {T}]")?;
-    for moment in [T + 10_000, LAST_MOMENT] {
-        let told = desk.tick(rt.alloc(), moment)?;
-        assert_eq!(rt; told.as_str(), silent.as_str());
+    for past in [10_000, LAST_MOMENT - T] {
+        ticks(&rt, rt.alloc(), &mut desk, past, &silent)?;
     }
     Ok(())
 }
@@ -166,10 +172,7 @@ fn ticks_behind_the_answer(rt: HostRuntime) -> Result<(), Fail> {
         (40_000, "[send 35=1|112=3|]"),
     ];
     for (past, want) in rows {
-        let due = desk.session.due();
-        let told = desk.tick(rt.alloc(), T + past)?;
-        assert_eq!(rt; told.as_str(), want, "at {past}");
-        assert_eq!(rt; due <= Some(T + past), !want.is_empty(), "due at {past}");
+        ticks(&rt, rt.alloc(), &mut desk, past, want)?;
     }
     Ok(())
 }
@@ -191,14 +194,12 @@ fn messages_behind_the_answer(rt: HostRuntime) -> Result<(), Fail> {
         ("35=5|(5)", "[send 35=5|][end LoggedOut]"),
     ];
     for (text, want) in rows {
-        let told = desk.receive(rt.alloc(), text, T)?;
-        assert_eq!(rt; told.as_str(), want, "{text}");
+        hears(&rt, rt.alloc(), &mut desk, text, want)?;
     }
-    assert_eq!(rt; desk.session.expected(), 6);
+    same(&rt, &desk.session.expected(), &6);
     desk.session.leave();
     // A session that dials and is off hears nothing.
-    let told = desk.receive(rt.alloc(), "35=A|(6)98=0|108=30|", T)?;
-    assert_eq!(rt; told.as_str(), "");
-    assert_eq!(rt; desk.session.expected(), 6);
+    hears(&rt, rt.alloc(), &mut desk, "35=A|(6)98=0|108=30|", "")?;
+    same(&rt, &desk.session.expected(), &6);
     Ok(())
 }

@@ -1,5 +1,6 @@
 //! Rows of calls on a number line, worked by hand.
 
+use crate::checks::{same, same_at};
 use seq_gaps::{Answer, Call, Expect, Gap, MAX_NUMBER, Offered, Place, make_calls};
 use std::process::Abort;
 use std::test::Fail;
@@ -32,42 +33,47 @@ fn stands(place: Place<u32>, gap: Option<Gap>) -> Offered<u32> {
 fn follow(rt: &impl Abort, line: &mut Expect<u32>, item: u32, row: Row) {
     match row {
         Row::Now(n) => {
-            assert_eq!(rt;
-                offer(rt, line, n, item),
-                stands(Place::Now(item), None),
-                "row {item}"
+            same_at(
+                rt,
+                &offer(rt, line, n, item),
+                &stands(Place::Now(item), None),
+                &item,
             )
         }
         Row::Held(n) => {
-            assert_eq!(rt;
-                offer(rt, line, n, item),
-                stands(Place::Held, None),
-                "row {item}"
+            same_at(
+                rt,
+                &offer(rt, line, n, item),
+                &stands(Place::Held, None),
+                &item,
             )
         }
         Row::HeldBehind(n, gap) => {
-            assert_eq!(rt;
-                offer(rt, line, n, item),
-                stands(Place::Held, Some(gap)),
-                "row {item}"
+            same_at(
+                rt,
+                &offer(rt, line, n, item),
+                &stands(Place::Held, Some(gap)),
+                &item,
             )
         }
         Row::Known(n) => {
-            assert_eq!(rt;
-                offer(rt, line, n, item),
-                stands(Place::Known(item), None),
-                "row {item}"
+            same_at(
+                rt,
+                &offer(rt, line, n, item),
+                &stands(Place::Known(item), None),
+                &item,
             )
         }
         Row::NoRoom(n) => {
-            assert_eq!(rt;
-                offer(rt, line, n, item),
-                stands(Place::NoRoom(item), None),
-                "row {item}"
+            same_at(
+                rt,
+                &offer(rt, line, n, item),
+                &stands(Place::NoRoom(item), None),
+                &item,
             )
         }
-        Row::Ready(of) => assert_eq!(rt; line.take_ready(), Some(of), "row {item}"),
-        Row::NoneReady => assert_eq!(rt; line.take_ready(), None, "row {item}"),
+        Row::Ready(of) => same_at(rt, &line.take_ready(), &Some(of), &item),
+        Row::NoneReady => same_at(rt, &line.take_ready(), &None, &item),
         Row::Fill(to) => {
             let next = line.next_number();
             assert!(rt; next <= to && to <= MAX_NUMBER + 1);
@@ -75,7 +81,7 @@ fn follow(rt: &impl Abort, line: &mut Expect<u32>, item: u32, row: Row) {
         }
         Row::Clear => line.clear(),
         Row::Restart => line.restart(),
-        Row::Next(n) => assert_eq!(rt; line.next_number(), n, "row {item}"),
+        Row::Next(n) => same_at(rt, &line.next_number(), &n, &item),
     }
 }
 
@@ -193,7 +199,7 @@ fn a_list_of_calls_is_answered(rt: HostRuntime) -> Result<(), Fail> {
         Answer::Taken(Some('b')),
         Answer::Taken(None),
     ];
-    assert_eq!(rt; answers.as_slice(), want.as_slice());
-    assert_eq!(rt; line.next_number(), 3);
+    same(&rt, &answers.as_slice(), &want.as_slice());
+    same(&rt, &line.next_number(), &3);
     Ok(())
 }

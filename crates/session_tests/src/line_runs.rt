@@ -2,6 +2,7 @@
 ghost use Rattle.std.specs.Prelude.{◌<◌};
 ghost use Rattle.seq_gaps.specs.Line.{IsNumber};
 
+use crate::checks::same_at;
 use crate::draw::Draw;
 use crate::plain_line::PlainLine;
 use gate_io::NoMemory;
@@ -33,17 +34,17 @@ impl Both {
         self.made = self.made.wrapping_add(1);
         let want = self.plain.offer(n, self.made)?;
         let got = self.fast.offer(n, self.made);
-        assert_eq!(rt; got, want, "call {} offers {n}", self.made);
+        same_at(rt, &got, &want, &(self.made, n));
         Ok(())
     }
 
     fn take_ready(&mut self, rt: &impl Abort) {
         self.made = self.made.wrapping_add(1);
-        assert_eq!(rt;
-            self.fast.take_ready(),
-            self.plain.take_ready(),
-            "call {}",
-            self.made
+        same_at(
+            rt,
+            &self.fast.take_ready(),
+            &self.plain.take_ready(),
+            &self.made,
         );
     }
 
@@ -51,7 +52,7 @@ impl Both {
     fn fill(&mut self, rt: &impl Abort, by: u32) {
         self.made = self.made.wrapping_add(1);
         let next = self.fast.next_number();
-        assert_eq!(rt; self.plain.next_number(), next, "call {}", self.made);
+        same_at(rt, &self.plain.next_number(), &next, &self.made);
         let to = next + by.min(MAX_NUMBER + 1 - next);
         self.fast.fill(to);
         self.plain.fill(to);
@@ -72,7 +73,7 @@ impl Both {
         requires { 0 < window }
     {
         let next = self.fast.next_number();
-        assert_eq!(rt; self.plain.next_number(), next, "call {}", self.made);
+        same_at(rt, &self.plain.next_number(), &next, &self.made);
         match draw.below(40) {
             0 => self.clear(),
             1 => self.restart(),

@@ -1,5 +1,6 @@
 //! Rows of messages on an accepted session, worked by hand.
 
+use crate::checks::{same, same_at};
 use crate::desk::{Desk, T, body};
 use fix_fields::Fields;
 use gate_io::{Bytes, LAST_MOMENT, NoMemory};
@@ -17,14 +18,48 @@ const LOGON: Row = ("35=A|(1)98=0|108=30|", "[send 35=A|98=0|108=30|]");
 fn follow(rt: &impl Abort, alloc: Global, rows: &[Row]) -> Result<Desk, NoMemory> {
     let mut desk = Desk::new(alloc)?;
     for (text, want) in rows {
-        let told = desk.receive(alloc, text, T)?;
-        assert_eq!(rt; told.as_str(), *want, "{text}");
+        hears(rt, alloc, &mut desk, text, want)?;
     }
     Ok(desk)
 }
 
+/// A message comes at T, and comes to this.
+pub fn hears(
+    rt: &impl Abort,
+    alloc: Global,
+    desk: &mut Desk,
+    text: &str,
+    want: &str,
+) -> Result<(), NoMemory> {
+    let told = desk.receive(alloc, text, T)?;
+    same_at(rt, &told.as_str(), &want, &text);
+    Ok(())
+}
+
+/// The clock stands so far behind T, which comes to this. Where it comes to something it was due.
+pub fn ticks(
+    rt: &impl Abort,
+    alloc: Global,
+    desk: &mut Desk,
+    past: u64,
+    want: &str,
+) -> Result<(), NoMemory> {
+    let moment = T.saturating_add(past);
+    let due = desk.session.due();
+    let told = desk.tick(alloc, moment)?;
+    same_at(rt, &told.as_str(), &want, &past);
+    same_at(rt, &(due <= Some(moment)), &!want.is_empty(), &past);
+    Ok(())
+}
+
 /// The same behind a Logon, and the number that is expected then.
-fn follow_on(
+fn follow_on(rt: &impl Abort, alloc: Global, rows: &[Row], expected: u32) -> Result<(), NoMemory> {
+    behind_logon(rt, alloc, rows, expected)?;
+    Ok(())
+}
+
+/// The session then.
+fn behind_logon(
     rt: &impl Abort,
     alloc: Global,
     rows: &[Row],
@@ -32,10 +67,9 @@ fn follow_on(
 ) -> Result<Desk, NoMemory> {
     let mut desk = follow(rt, alloc, [LOGON].as_slice())?;
     for (text, want) in rows {
-        let told = desk.receive(alloc, text, T)?;
-        assert_eq!(rt; told.as_str(), *want, "{text}");
+        hears(rt, alloc, &mut desk, text, want)?;
     }
-    assert_eq!(rt; desk.session.expected(), expected);
+    same(rt, &desk.session.expected(), &expected);
     Ok(desk)
 }
 
@@ -184,22 +218,35 @@ fn resets_and_resend_requests(rt: HostRuntime) -> Result<(), Fail> {
     Ok(())
 }
 
+/// The ID of a TestRequest with so many characters, and the Heartbeat or the Reject that answers it.
+fn hears_test(
+    rt: &impl Abort,
+    alloc: Global,
+    desk: &mut Desk,
+    number: u32,
+    length: u32,
+    want: &str,
+) -> Result<(), NoMemory> {
+    let mut id = String::new(alloc);
+    for _ in 0..length {
+        id.push('t')?;
+    }
+    let text = format!(in alloc; "35=1|({number})112={id}|")?;
+    if want.is_empty() {
+        let answer = format!(in alloc; "[send 35=0|112={id}|]")?;
+        return hears(rt, alloc, desk, &text, &answer);
+    }
+    hears(rt, alloc, desk, &text, want)
+}
+
 #[test]
 fn test_requests_are_answered(rt: HostRuntime) -> Result<(), Fail> {
     let missing = [("35=1|(2)11=X|", "[send 35=3|45=2|371=112|372=1|373=1|]")];
     follow_on(&rt, rt.alloc(), &missing, 3)?;
     let mut desk = follow(&rt, rt.alloc(), &[LOGON])?;
-    let mut test = String::new(rt.alloc());
-    for _ in 0..256 {
-        test.push('t')?;
-    }
-    let text = format!(in rt.alloc(); "35=1|(2)112={test}|")?;
-    let want = format!(in rt.alloc(); "[send 35=0|112={test}|]")?;
-    let told = desk.receive(rt.alloc(), &text, T)?;
-    assert_eq!(rt; told.as_str(), want.as_str());
-    let text = format!(in rt.alloc(); "35=1|(3)112={test}t|")?;
-    let told = desk.receive(rt.alloc(), &text, T)?;
-    assert_eq!(rt; told.as_str(), "[send 35=3|45=3|371=112|372=1|373=5|]");
+    hears_test(&rt, rt.alloc(), &mut desk, 2, 256, "")?;
+    let refused = "[send 35=3|45=3|371=112|372=1|373=5|]";
+    hears_test(&rt, rt.alloc(), &mut desk, 3, 257, refused)?;
     Ok(())
 }
 
@@ -217,19 +264,18 @@ fn the_clock_asks_and_drops(rt: HostRuntime) -> Result<(), Fail> {
         (66_000, silent.as_str()),
     ];
     for (past, want) in rows {
-        let due = desk.session.due();
-        let told = desk.tick(rt.alloc(), T + past)?;
-        assert_eq!(rt; told.as_str(), want, "at {past}");
-        assert_eq!(rt; due <= Some(T + past), !want.is_empty(), "due at {past}");
+        ticks(&rt, rt.alloc(), &mut desk, past, want)?;
     }
-    let mut quiet = follow(
-        &rt,
-        rt.alloc(),
-        &[("35=A|(1)98=0|108=0|", "[send 35=A|98=0|108=0|]")],
-    )?;
+    Ok(())
+}
+
+#[test]
+fn without_heartbeats_the_clock_asks_nothing(rt: HostRuntime) -> Result<(), Fail> {
+    let logon = ("35=A|(1)98=0|108=0|", "[send 35=A|98=0|108=0|]");
+    let mut quiet = follow(&rt, rt.alloc(), &[logon])?;
     assert!(rt; quiet.session.due().is_none());
     let told = quiet.tick(rt.alloc(), LAST_MOMENT)?;
-    assert_eq!(rt; told.as_str(), "");
+    same(&rt, &told.as_str(), &"");
     quiet.session.sent(T);
     quiet.session.leave();
     assert!(rt; quiet.session.due().is_none());
@@ -238,7 +284,7 @@ fn the_clock_asks_and_drops(rt: HostRuntime) -> Result<(), Fail> {
 
 #[test]
 fn a_reset_at_the_logon(rt: HostRuntime) -> Result<(), Fail> {
-    let mut desk = follow_on(&rt, rt.alloc(), &[("35=0|(2)", "")], 3)?;
+    let mut desk = behind_logon(&rt, rt.alloc(), &[("35=0|(2)", "")], 3)?;
     desk.session.leave();
     let rows = [
         (
@@ -260,14 +306,14 @@ fn a_reset_at_the_logon(rt: HostRuntime) -> Result<(), Fail> {
     ];
     for (text, want, expected) in rows {
         let told = desk.receive(rt.alloc(), text, T)?;
-        assert_eq!(rt; told.as_str(), want, "{text}");
-        assert_eq!(rt; desk.session.expected(), expected, "{text}");
+        same_at(&rt, &told.as_str(), &want, &text);
+        same_at(&rt, &desk.session.expected(), &expected, &text);
         desk.session.leave();
     }
     let us = body(rt.alloc(), "GATE")?;
     let them = body(rt.alloc(), "BUYER")?;
     let resumed = Session::resume(rt.alloc(), us, them, 1_000_000_000)?;
-    assert_eq!(rt; resumed.expected(), 1_000_000_000);
+    same(&rt, &resumed.expected(), &1_000_000_000);
     Ok(())
 }
 
@@ -279,7 +325,7 @@ fn there_is_room_for_256(rt: HostRuntime) -> Result<(), Fail> {
         desk.receive(rt.alloc(), &text, T)?;
     }
     let told = desk.receive(rt.alloc(), "35=1|(259)112=259|", T)?;
-    assert_eq!(rt; told.as_str(), "");
+    same(&rt, &told.as_str(), &"");
     let told = desk.receive(rt.alloc(), "35=4|(2)123=Y|36=3|", T)?;
     assert!(rt;
         told.as_str()
@@ -289,7 +335,7 @@ fn there_is_room_for_256(rt: HostRuntime) -> Result<(), Fail> {
         told.as_str()
             .ends_with("[send 35=0|112=257|][send 35=0|112=258|]")
     );
-    assert_eq!(rt; desk.session.expected(), 259);
+    same(&rt, &desk.session.expected(), &259);
     Ok(())
 }
 
@@ -331,9 +377,9 @@ fn a_first_message_is_routed(rt: HostRuntime) -> Result<(), Fail> {
     for (text, want) in cases {
         let bytes = body(alloc, text)?;
         let fields = Fields::read(alloc, &bytes)?;
-        assert_eq!(rt; route(&fields, &names), want, "{text}");
+        same_at(&rt, &route(&fields, &names), &want, &text);
         if let Ok(s) = want {
-            assert_eq!(rt; session_of(&fields, &names), Some(s), "{text}");
+            same_at(&rt, &session_of(&fields, &names), &Some(s), &text);
         }
     }
     Ok(())
@@ -348,11 +394,11 @@ fn a_number_behind_a_wrong_comp_id(rt: HostRuntime) -> Result<(), Fail> {
             "[send 35=3|45=2|371=49|372=D|373=9|][send 35=5|][end CompId 49]",
         ),
     ];
-    let mut desk = follow_on(&rt, rt.alloc(), &rows, 3)?;
+    let mut desk = behind_logon(&rt, rt.alloc(), &rows, 3)?;
     desk.session.leave();
     let told = desk.receive(rt.alloc(), "35=A|(3)98=0|108=30|", T)?;
-    assert_eq!(rt; told.as_str(), "[send 35=A|98=0|108=30|]");
-    assert_eq!(rt; desk.session.expected(), 4);
+    same(&rt, &told.as_str(), &"[send 35=A|98=0|108=30|]");
+    same(&rt, &desk.session.expected(), &4);
     Ok(())
 }
 

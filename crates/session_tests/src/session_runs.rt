@@ -1,5 +1,6 @@
 //! Generated runs against the plain telling of the rules.
 
+use crate::checks::{holds, same_at};
 use crate::desk::{Desk, T, body};
 use crate::draw::Draw;
 use crate::plain_session::PlainSession;
@@ -89,14 +90,19 @@ struct Both {
 impl Both {
     fn compare(&mut self, rt: &impl Abort, alloc: Global, got: &str) -> Result<(), NoMemory> {
         let (want, over) = self.plain.told(alloc)?;
-        assert_eq!(rt; got, want.as_str(), "at {}", self.moment);
-        assert_eq!(rt; self.fast.session.expected(), self.plain.expected, "{want}");
+        same_at(rt, &got, &want.as_str(), &self.moment);
+        same_at(
+            rt,
+            &self.fast.session.expected(),
+            &self.plain.expected,
+            &want,
+        );
         match self.fast.session.due() {
             Some(due) => {
-                assert!(rt; self.plain.is_due(due), "{want}");
-                assert!(rt; !self.plain.is_due(due.wrapping_sub(1)), "{want}");
+                holds(rt, self.plain.is_due(due), &want);
+                holds(rt, !self.plain.is_due(due.wrapping_sub(1)), &want);
             }
-            None => assert!(rt; !self.plain.is_due(LAST_MOMENT), "{want}"),
+            None => holds(rt, !self.plain.is_due(LAST_MOMENT), &want),
         }
         if over {
             self.fast.session.leave();

@@ -3,6 +3,7 @@ ghost use Rattle.std.specs.Prelude.{◌≡◌, ◌<◌, ◌≤◌, true, [], len
 ghost use Rattle.lease_words.specs.Leases.{is_running, held_lease};
 ghost use Rattle.lease_words.specs.Views.{engine_at, library_at, pending};
 
+use crate::checks::same;
 use fix_fields::{LONGEST_APPLICATION_BODY, check_body};
 use gate_io::Bytes;
 use lease_core::{MOST_LEASES, Standing, Word, write_word};
@@ -149,33 +150,42 @@ fn sends(alloc: Global, leases: &Leases, seat: &mut LibrarySeat, count: u32) -> 
 #[test]
 fn a_full_lane_refuses_until_one_is_taken(rt: HostRuntime) -> Result<(), Fail> {
     let (leases, mut engine, mut library) = opened(rt.alloc(), 16, 100)?;
-    assert_eq!(rt; grant(&leases, &mut engine), Some(1));
+    same(&rt, &grant(&leases, &mut engine), &Some(1));
     assert!(rt; sends(rt.alloc(), &leases, &mut library, 16)?);
     let full = SendError::LaneFull {
         committed: 16,
         taken: 0,
     };
-    assert_eq!(rt; send(rt.alloc(), &leases, &mut library, SECOND)?, Err(full));
+    same(
+        &rt,
+        &send(rt.alloc(), &leases, &mut library, SECOND)?,
+        &Err(full),
+    );
     leases.look(&mut engine, 0);
     assert!(rt; leases.take(&mut engine, 0).is_some());
     let sent = Sent {
         lease: 1,
         ordinal: 17,
     };
-    assert_eq!(rt; send(rt.alloc(), &leases, &mut library, SECOND)?, Ok(sent));
+    same(
+        &rt,
+        &send(rt.alloc(), &leases, &mut library, SECOND)?,
+        &Ok(sent),
+    );
     Ok(())
 }
 
 #[test]
 fn a_lease_makes_only_so_many_sends(rt: HostRuntime) -> Result<(), Fail> {
     let (leases, mut engine, mut library) = opened(rt.alloc(), 16, 2)?;
-    assert_eq!(rt; grant(&leases, &mut engine), Some(1));
+    same(&rt, &grant(&leases, &mut engine), &Some(1));
     assert!(rt; send(rt.alloc(), &leases, &mut library, FIRST)?.is_ok());
     assert!(rt; send(rt.alloc(), &leases, &mut library, FIRST)?.is_ok());
     let spent = SendError::SendsSpent { count: 2 };
-    assert_eq!(rt;
-        send(rt.alloc(), &leases, &mut library, SECOND)?,
-        Err(spent)
+    same(
+        &rt,
+        &send(rt.alloc(), &leases, &mut library, SECOND)?,
+        &Err(spent),
     );
     Ok(())
 }
@@ -193,22 +203,23 @@ fn a_send_after_a_revoke_is_lost(rt: HostRuntime) -> Result<(), Fail> {
         standing: Standing::Revoked,
         count: 1,
     };
-    assert_eq!(rt;
-        send_by(rt.alloc(), &leases, &mut library, lease, SECOND)?,
-        Err(SendError::Lost { seen })
+    same(
+        &rt,
+        &send_by(rt.alloc(), &leases, &mut library, lease, SECOND)?,
+        &Err(SendError::Lost { seen }),
     );
-    assert_eq!(rt; hold(&leases, &mut library, 0), None);
+    same(&rt, &hold(&leases, &mut library, 0), &None);
     Ok(())
 }
 
 #[test]
 fn a_release_answers_how_many_sends_were_made(rt: HostRuntime) -> Result<(), Fail> {
     let (leases, mut engine, mut library) = opened(rt.alloc(), 16, 100)?;
-    assert_eq!(rt; grant(&leases, &mut engine), Some(1));
+    same(&rt, &grant(&leases, &mut engine), &Some(1));
     assert!(rt; send(rt.alloc(), &leases, &mut library, FIRST)?.is_ok());
     let lease = hold(&leases, &mut library, 0).ok_or("a lease")?;
-    assert_eq!(rt; leases.release(&mut library, 0, lease), Ok(1));
-    assert_eq!(rt; hold(&leases, &mut library, 0), None);
+    same(&rt, &leases.release(&mut library, 0, lease), &Ok(1));
+    same(&rt, &hold(&leases, &mut library, 0), &None);
     Ok(())
 }
 
@@ -224,16 +235,20 @@ fn a_release_after_a_revoke_is_lost(rt: HostRuntime) -> Result<(), Fail> {
         standing: Standing::Revoked,
         count: 0,
     };
-    assert_eq!(rt; leases.release(&mut library, 0, lease), Err(Lost { seen }));
+    same(
+        &rt,
+        &leases.release(&mut library, 0, lease),
+        &Err(Lost { seen }),
+    );
     Ok(())
 }
 
 #[test]
 fn a_lease_is_handed_to_an_heir(rt: HostRuntime) -> Result<(), Fail> {
     let (leases, mut engine, mut library) = opened(rt.alloc(), 16, 100)?;
-    assert_eq!(rt; grant(&leases, &mut engine), Some(1));
+    same(&rt, &grant(&leases, &mut engine), &Some(1));
     let lease = hold(&leases, &mut library, 0).ok_or("a lease")?;
-    assert_eq!(rt; leases.release_to(&mut library, 0, lease, 2), Ok(0));
+    same(&rt, &leases.release_to(&mut library, 0, lease, 2), &Ok(0));
     let word = leases.look(&mut engine, 0);
     let handed = Word {
         lease: 1,
@@ -241,8 +256,8 @@ fn a_lease_is_handed_to_an_heir(rt: HostRuntime) -> Result<(), Fail> {
         standing: Standing::Released,
         count: 0,
     };
-    assert_eq!(rt; word, handed);
-    assert_eq!(rt; write_word(handed), 1_138_166_333_440);
+    same(&rt, &word, &handed);
+    same(&rt, &write_word(handed), &1_138_166_333_440);
     Ok(())
 }
 
@@ -256,13 +271,13 @@ fn after_a_revoke_the_next_lease_is_granted(rt: HostRuntime) -> Result<(), Fail>
         standing: Standing::Active,
         count: 0,
     };
-    assert_eq!(rt; leases.revoke(&mut engine, 0), active);
+    same(&rt, &leases.revoke(&mut engine, 0), &active);
     let revoked = Word {
         standing: Standing::Revoked,
         ..active
     };
-    assert_eq!(rt; leases.look(&mut engine, 0), revoked);
-    assert_eq!(rt; grant(&leases, &mut engine), Some(2));
+    same(&rt, &leases.look(&mut engine, 0), &revoked);
+    same(&rt, &grant(&leases, &mut engine), &Some(2));
     Ok(())
 }
 
@@ -271,16 +286,16 @@ fn a_revoke_of_what_was_given_back_answers_so(rt: HostRuntime) -> Result<(), Fai
     let (leases, mut engine, mut library) = opened(rt.alloc(), 16, 100)?;
     grant(&leases, &mut engine).ok_or("a lease")?;
     let lease = hold(&leases, &mut library, 0).ok_or("a lease")?;
-    assert_eq!(rt; leases.release(&mut library, 0, lease), Ok(0));
+    same(&rt, &leases.release(&mut library, 0, lease), &Ok(0));
     let released = Word {
         lease: 1,
         owner: 1,
         standing: Standing::Released,
         count: 0,
     };
-    assert_eq!(rt; leases.revoke(&mut engine, 0), released);
-    assert_eq!(rt; leases.look(&mut engine, 0), released);
-    assert_eq!(rt; grant(&leases, &mut engine), Some(2));
+    same(&rt, &leases.revoke(&mut engine, 0), &released);
+    same(&rt, &leases.look(&mut engine, 0), &released);
+    same(&rt, &grant(&leases, &mut engine), &Some(2));
     Ok(())
 }
 
@@ -293,9 +308,9 @@ fn after_a_revoke_all_that_was_sent_is_taken(rt: HostRuntime) -> Result<(), Fail
     assert!(rt; leases.take(&mut engine, 0).is_none());
     leases.revoke(&mut engine, 0);
     let first = leases.take(&mut engine, 0).ok_or("an item")?;
-    assert_eq!(rt; first.body.as_slice(), FIRST);
+    same(&rt, &first.body.as_slice(), &FIRST);
     let second = leases.take(&mut engine, 0).ok_or("an item")?;
-    assert_eq!(rt; second.body.as_slice(), SECOND);
+    same(&rt, &second.body.as_slice(), &SECOND);
     assert!(rt; leases.take(&mut engine, 0).is_none());
     Ok(())
 }
@@ -309,18 +324,18 @@ fn a_session_that_is_not_there_shows_nothing(rt: HostRuntime) -> Result<(), Fail
         standing: Standing::Active,
         count: 0,
     };
-    assert_eq!(rt; leases.see(&mut library, 0), opening);
-    assert_eq!(rt; leases.see(&mut library, 1), opening);
-    assert_eq!(rt; leases.arrived(&mut library, 1), 0);
+    same(&rt, &leases.see(&mut library, 0), &opening);
+    same(&rt, &leases.see(&mut library, 1), &opening);
+    same(&rt, &leases.arrived(&mut library, 1), &0);
     Ok(())
 }
 
 #[test]
 fn what_is_published_arrives(rt: HostRuntime) -> Result<(), Fail> {
     let (leases, mut engine, mut library) = opened(rt.alloc(), 16, 100)?;
-    assert_eq!(rt; leases.arrived(&mut library, 0), 0);
+    same(&rt, &leases.arrived(&mut library, 0), &0);
     leases.publish(&mut engine, 0, 3);
-    assert_eq!(rt; leases.arrived(&mut library, 0), 3);
+    same(&rt, &leases.arrived(&mut library, 0), &3);
     Ok(())
 }
 
@@ -329,19 +344,19 @@ fn beats_are_counted(rt: HostRuntime) -> Result<(), Fail> {
     let (leases, mut engine, mut library) = opened(rt.alloc(), 16, 100)?;
     leases.beat(&mut library);
     leases.beat(&mut library);
-    assert_eq!(rt; leases.beats(&mut engine, 1), 2);
-    assert_eq!(rt; leases.beats(&mut engine, 2), 0);
+    same(&rt, &leases.beats(&mut engine, 1), &2);
+    same(&rt, &leases.beats(&mut engine, 2), &0);
     Ok(())
 }
 
 #[test]
 fn a_table_has_a_seat_for_each_library(rt: HostRuntime) -> Result<(), Fail> {
     let (leases, _, seats) = Leases::new(rt.alloc(), 64, 16, 16, 100)?;
-    assert_eq!(rt; leases.libraries(), 16);
-    assert_eq!(rt; seats.len(), 16);
+    same(&rt, &leases.libraries(), &16);
+    same(&rt, &seats.len(), &16);
     let (leases, _, seats) = Leases::new(rt.alloc(), 0, 0, 1, 1)?;
-    assert_eq!(rt; leases.libraries(), 0);
-    assert_eq!(rt; seats.len(), 0);
+    same(&rt, &leases.libraries(), &0);
+    same(&rt, &seats.len(), &0);
     Ok(())
 }
 

@@ -1,6 +1,7 @@
 //! Calls of the two ends of a ring in turn, and what they answer.
 ghost use Rattle.std.specs.Prelude.{◌≡◌};
 
+use crate::checks::same;
 use ring_links::{Full, Head, Ring, Room, Tail, ring};
 use std::test::Fail;
 
@@ -37,13 +38,13 @@ fn an_empty_ring_gives_nothing(rt: HostRuntime) -> Result<(), Fail> {
     let (ring, mut tail, mut head) = ring(rt.alloc(), 1)?;
     assert!(rt; ring.pop(&mut head).is_none());
     assert!(rt; ring.push(&mut tail, 7u32).is_ok());
-    assert_eq!(rt; ring.pop(&mut head), Some(7));
-    assert_eq!(rt; ring.pop(&mut head), None);
+    same(&rt, &ring.pop(&mut head), &Some(7));
+    same(&rt, &ring.pop(&mut head), &None);
     let room = Room {
         pushed: 1,
         taken: 1,
     };
-    assert_eq!(rt; ring.room(&mut tail), room);
+    same(&rt, &ring.room(&mut tail), &room);
     let left = ring.finish(rt.alloc(), tail, head)?;
     assert!(rt; left.is_empty());
     Ok(())
@@ -58,14 +59,14 @@ fn the_largest_ring_fills_refuses_and_empties(rt: HostRuntime) -> Result<(), Fai
         pushed: 256,
         taken: 0,
     };
-    assert_eq!(rt; ring.push(&mut tail, 256), Err(full));
+    same(&rt, &ring.push(&mut tail, 256), &Err(full));
     assert!(rt; pop_numbers(&ring, &mut head, 256));
-    assert_eq!(rt; ring.pop(&mut head), None);
+    same(&rt, &ring.pop(&mut head), &None);
     let room = Room {
         pushed: 256,
         taken: 256,
     };
-    assert_eq!(rt; ring.room(&mut tail), room);
+    same(&rt, &ring.room(&mut tail), &room);
     Ok(())
 }
 
@@ -86,10 +87,10 @@ fn finishing_hands_out_what_is_left(rt: HostRuntime) -> Result<(), Fail> {
     );
     ring.meet(&mut tail, &mut head);
     let first = ring.pop(&mut head).ok_or("a word")?;
-    assert_eq!(rt; first.as_str(), "first");
+    same(&rt, &first.as_str(), &"first");
     let left = ring.finish(rt.alloc(), tail, head)?;
-    assert_eq!(rt; left.len(), 2);
-    assert_eq!(rt; left[0].as_str(), "second");
-    assert_eq!(rt; left[1].as_str(), "third");
+    same(&rt, &left.len(), &2);
+    same(&rt, &left[0].as_str(), &"second");
+    same(&rt, &left[1].as_str(), &"third");
     Ok(())
 }

@@ -5,6 +5,7 @@ ghost use Rattle.lease_words.specs.Leases.{is_running, held_lease};
 ghost use Rattle.lease_words.specs.Views.{engine_at, library_at, pending};
 
 use super::{hold, is_active, item};
+use crate::checks::{holds, same};
 use lease_words::{EngineSeat, Item, Leases, LibrarySeat};
 use rand_core::utils::NextWord;
 use rand_pcg::Pcg32;
@@ -404,7 +405,7 @@ fn close_all(leases: &Leases, engine: &mut EngineSeat, taker: &mut Taker) -> Opt
 }
 
 // Whether what was taken of a library in a session is what it sent there, in order.
-fn same(sent: &[Mark], taken: &[Mark], session: u16, library: u8) -> bool {
+fn are_taken(sent: &[Mark], taken: &[Mark], session: u16, library: u8) -> bool {
     let mut rest = taken
         .iter()
         .filter(|m| m.session == session && m.library == library);
@@ -416,9 +417,9 @@ fn same(sent: &[Mark], taken: &[Mark], session: u16, library: u8) -> bool {
     rest.next().is_none()
 }
 
-fn all_same(sender: &Sender, taker: &Taker, library: u8) -> bool {
+fn all_are_taken(sender: &Sender, taker: &Taker, library: u8) -> bool {
     for session in 0..3u16 {
-        if !same(
+        if !are_taken(
             sender.sent.as_slice(),
             taker.taken.as_slice(),
             session,
@@ -460,13 +461,13 @@ fn nothing_is_lost_or_taken_twice(rt: HostRuntime) -> Result<(), Fail> {
     leases.settle(&mut engine, three.0);
     leases.settle(&mut engine, four.0);
     close_all(&leases, &mut engine, &mut taker).ok_or("an end")?;
-    assert_eq!(rt; taker.wrong, 0);
-    assert!(rt; all_same(&one.1, &taker, 1));
-    assert!(rt; all_same(&two.1, &taker, 2));
-    assert!(rt; all_same(&three.1, &taker, 3));
-    assert!(rt; all_same(&four.1, &taker, 4));
+    same(&rt, &taker.wrong, &0);
+    assert!(rt; all_are_taken(&one.1, &taker, 1));
+    assert!(rt; all_are_taken(&two.1, &taker, 2));
+    assert!(rt; all_are_taken(&three.1, &taker, 3));
+    assert!(rt; all_are_taken(&four.1, &taker, 4));
     let all = one.1.sent.len() + two.1.sent.len() + three.1.sent.len() + four.1.sent.len();
-    assert_eq!(rt; taker.taken.len(), all);
-    assert!(rt; all >= 4 * SENDS, "{all}");
+    same(&rt, &taker.taken.len(), &all);
+    holds(&rt, all >= 4 * SENDS, &all);
     Ok(())
 }

@@ -5,6 +5,7 @@ ghost use Rattle.lease_words.specs.Leases.{is_running};
 ghost use Rattle.lease_words.specs.Registries.{IsEndedJournal};
 
 use super::{FIRST, SECOND, grant, hold, send};
+use crate::checks::same;
 use lease_core::{Entry, MOST_LEASES, Recovery, Registry, Standing, Word};
 use lease_words::{EngineSeat, Leases, LibrarySeat, SendError};
 use std::alloc::Global;
@@ -100,11 +101,11 @@ const OPENING: Word = Word {
 #[test]
 fn a_resumed_table_shows_the_words_of_its_journals(rt: HostRuntime) -> Result<(), Fail> {
     let (leases, mut engine, mut library) = resumed(rt.alloc())?;
-    assert_eq!(rt; leases.look(&mut engine, 0), REVOKED);
-    assert_eq!(rt; leases.look(&mut engine, 1), OPENING);
-    assert_eq!(rt; leases.see(&mut library, 0), REVOKED);
-    assert_eq!(rt; leases.see(&mut library, 1), OPENING);
-    assert_eq!(rt; leases.held(&library, 0), 0);
+    same(&rt, &leases.look(&mut engine, 0), &REVOKED);
+    same(&rt, &leases.look(&mut engine, 1), &OPENING);
+    same(&rt, &leases.see(&mut library, 0), &REVOKED);
+    same(&rt, &leases.see(&mut library, 1), &OPENING);
+    same(&rt, &leases.held(&library, 0), &0);
     assert!(rt; leases.take(&mut engine, 0).is_none());
     Ok(())
 }
@@ -112,24 +113,28 @@ fn a_resumed_table_shows_the_words_of_its_journals(rt: HostRuntime) -> Result<()
 #[test]
 fn a_resumed_table_grants_the_next_lease(rt: HostRuntime) -> Result<(), Fail> {
     let (leases, mut engine, mut library) = resumed(rt.alloc())?;
-    assert_eq!(rt; grant(&leases, &mut engine), Some(2));
-    assert_eq!(rt; hold(&leases, &mut library, 0), Some(2));
+    same(&rt, &grant(&leases, &mut engine), &Some(2));
+    same(&rt, &hold(&leases, &mut library, 0), &Some(2));
     Ok(())
 }
 
 #[test]
 fn a_resumed_lane_counts_what_came_since(rt: HostRuntime) -> Result<(), Fail> {
     let (leases, mut engine, mut library) = resumed(rt.alloc())?;
-    assert_eq!(rt; grant(&leases, &mut engine), Some(2));
+    same(&rt, &grant(&leases, &mut engine), &Some(2));
     assert!(rt; send(rt.alloc(), &leases, &mut library, FIRST)?.is_ok());
     assert!(rt; send(rt.alloc(), &leases, &mut library, SECOND)?.is_ok());
     let full = SendError::LaneFull {
         committed: 2,
         taken: 0,
     };
-    assert_eq!(rt; send(rt.alloc(), &leases, &mut library, FIRST)?, Err(full));
+    same(
+        &rt,
+        &send(rt.alloc(), &leases, &mut library, FIRST)?,
+        &Err(full),
+    );
     leases.look(&mut engine, 0);
     let first = leases.take(&mut engine, 0).ok_or("an item")?;
-    assert_eq!(rt; first.body.as_slice(), FIRST);
+    same(&rt, &first.body.as_slice(), &FIRST);
     Ok(())
 }

@@ -1,6 +1,7 @@
 //! Items that go through a ring from one thread to another.
 ghost use Rattle.std.specs.Prelude.{◌≡◌, ◌≤◌, [], ◌∷◌, ◌++◌, length, vec_len, vec_capacity, IfOk};
 
+use crate::checks::same;
 use gate_io::NoMemory;
 use ring_links::{Full, Head, Ring, Tail, ring};
 use std::alloc::Global;
@@ -110,7 +111,7 @@ fn numbers_arrive_in_order(rt: HostRuntime) -> Result<(), Fail> {
         numbers.push(number)?;
     }
     let got = relay(&rt, rt.alloc(), numbers)?;
-    assert_eq!(rt; got.len(), 10_000);
+    same(&rt, &got.len(), &10_000);
     assert!(rt;
         got.iter()
             .enumerate()
@@ -126,7 +127,7 @@ fn items_that_own_memory_arrive_in_order(rt: HostRuntime) -> Result<(), Fail> {
         boxes.push(Box::new(rt.alloc(), number)?)?;
     }
     let got = relay(&rt, rt.alloc(), boxes)?;
-    assert_eq!(rt; got.len(), 10_000);
+    same(&rt, &got.len(), &10_000);
     assert!(rt;
         got.iter()
             .enumerate()
