@@ -30,14 +30,30 @@ pub fn orders_apart<R: Clock + Threads + Sync>(
     let (mut gateway, shared, ends) = open(alloc, 1, input.as_slice(), room_for(count))?;
     let mut library = library(&shared, ends);
     take_session(alloc, &shared, &mut gateway, &mut library)?;
+    let (time, written) = time_beside(rt, alloc, &shared, &mut gateway, &mut library, count)?;
+    check(alloc, &shared, gateway, written, count)?;
+    Ok(time)
+}
+
+// How many nanoseconds it takes, and how many bytes were written.
+fn time_beside<R: Clock + Threads + Sync>(
+    rt: &R,
+    alloc: Global,
+    shared: &Shared,
+    gateway: &mut Gateway,
+    library: &mut Application,
+    count: u64,
+) -> Result<(u128, u64), anyhow::Error>
+    requires over { IsOver shared.now gateway.old.engine gateway.old.wire }
+    ensures over { IsOver shared.now gateway.new.engine gateway.new.wire }
+{
     let start = Instant::now(rt)?;
-    let written = answer_beside(rt, alloc, &shared, &mut gateway, &mut library, count)?;
+    let written = answer_beside(rt, alloc, shared, gateway, library, count)?;
     let time = start.elapsed(rt)?;
     if library.answered != count {
         bail!("some orders were not answered");
     }
-    check(alloc, &shared, gateway, written, count)?;
-    Ok(time.as_nanos())
+    Ok((time.as_nanos(), written))
 }
 
 // The engine makes turns while the library answers so many orders. Answers how many bytes were written.

@@ -1,12 +1,14 @@
 //! Turns in which connections, sessions and libraries rest.
 
 ghost use Rattle.std.specs.Prelude.{◌≡◌, ◌<◌, ◌≤◌};
+ghost use Rattle.engine_speed.specs.Over.{IsOver};
 
 use crate::crowd::open_crowd;
-use crate::gateway::open;
+use crate::gateway::{Gateway, open};
 use anyhow::bail;
 use engine_loop::Engine;
 use gate_io::MOST_CONNECTIONS;
+use library_desk::Shared;
 use session_core::MOST_SESSIONS;
 use std::alloc::Global;
 use std::time::{Clock, Instant};
@@ -19,9 +21,22 @@ pub fn rest<R: Clock>(rt: &R, alloc: Global, connections: u32) -> Result<u128, a
     requires few { connections ≤ MOST_CONNECTIONS }
 {
     let (mut gateway, shared, _ends) = open(alloc, connections, b"", 0)?;
-    gateway.turns(alloc, &shared, u64::from(connections))?;
+    time_rest(rt, alloc, &mut gateway, &shared, connections)
+}
+
+// How many nanoseconds the resting turns take, once so many connections came.
+fn time_rest<R: Clock>(
+    rt: &R,
+    alloc: Global,
+    gateway: &mut Gateway,
+    shared: &Shared,
+    connections: u32,
+) -> Result<u128, anyhow::Error>
+    requires over { IsOver shared.now gateway.old.engine gateway.old.wire }
+{
+    gateway.turns(alloc, shared, u64::from(connections))?;
     let start = Instant::now(rt)?;
-    gateway.turns(alloc, &shared, RESTING_TURNS)?;
+    gateway.turns(alloc, shared, RESTING_TURNS)?;
     Ok(start.elapsed(rt)?.as_nanos())
 }
 
@@ -31,13 +46,27 @@ pub fn rest_in_crowd<R: Clock>(rt: &R, alloc: Global, sessions: u32) -> Result<u
     requires few { sessions ≤ MOST_SESSIONS }
 {
     let (mut gateway, shared, _ends) = open_crowd(alloc, sessions)?;
+    time_crowd(rt, alloc, &mut gateway, &shared, sessions)
+}
+
+// How many nanoseconds the resting turns take, once so many sessions were logged on.
+fn time_crowd<R: Clock>(
+    rt: &R,
+    alloc: Global,
+    gateway: &mut Gateway,
+    shared: &Shared,
+    sessions: u32,
+) -> Result<u128, anyhow::Error>
+    requires few { sessions ≤ MOST_SESSIONS }
+    requires over { IsOver shared.now gateway.old.engine gateway.old.wire }
+{
     // Each of these turns accepts a connection, and answers its Logon.
-    gateway.turns(alloc, &shared, u64::from(sessions))?;
+    gateway.turns(alloc, shared, u64::from(sessions))?;
     if !are_bound(&gateway.engine, sessions) {
         bail!("some sessions were not logged on");
     }
     let start = Instant::now(rt)?;
-    let written = gateway.turns(alloc, &shared, RESTING_TURNS)?;
+    let written = gateway.turns(alloc, shared, RESTING_TURNS)?;
     let time = start.elapsed(rt)?;
     if written > 0 {
         bail!("some sessions did not rest");
