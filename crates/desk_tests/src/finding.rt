@@ -1,29 +1,9 @@
-//! What a step comes to, as text, and what a row does.
+//! What a step comes to, as text.
 
 use gate_io::NoMemory;
-use row_text::Step as Line;
+use row_text::Fault;
 use std::alloc::Global;
 use std::fmt::Debug;
-
-/// Why a row isn't as it says.
-#[derive(Drop)]
-pub enum Fault<'a> {
-    /// This line isn't understood.
-    Unclear(Line<'a>),
-    /// The step on this line came to something else. A step that comes to nothing is done as it says.
-    Differs {
-        line: usize,
-        wanted: Option<&'a str>,
-        found: Option<String>,
-    },
-}
-
-/// How far a row was played: how many steps it has come to, and the fault at which it stands.
-#[derive(Drop)]
-pub struct Course<'a> {
-    pub steps: u64,
-    pub fault: Option<Fault<'a>>,
-}
 
 /// A value, as `Debug` prints it.
 pub fn shown(alloc: Global, value: &impl Debug) -> Result<Option<String>, NoMemory> {

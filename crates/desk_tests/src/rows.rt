@@ -1,16 +1,24 @@
 //! Rows, from their outset to their end.
 
 use crate::asks::{ask_on, part_asks};
-use crate::finding::Course;
 use crate::making::{Sides, make};
 use crate::morning::{begin, follow_on};
 use crate::outset::part_outset;
 use anyhow::Result;
-use row_text::Row;
+use row_text::{Course, Player, Row};
 use std::alloc::Global;
 
-/// Plays a row, up to the first fault.
-pub fn play<'a>(alloc: Global, row: &Row<'a>) -> Result<Course<'a>> {
+/// The desks, as what plays rows: sessions, two libraries and their table begin anew for each.
+pub struct Desks {}
+
+impl Player for Desks {
+    fn play<'a>(&self, alloc: Global, row: &Row<'a>) -> Result<Course<'a>> {
+        play(alloc, row)
+    }
+}
+
+// Plays a row, up to the first fault.
+fn play<'a>(alloc: Global, row: &Row<'a>) -> Result<Course<'a>> {
     let (outset, behind) = part_outset(row.steps.as_slice());
     let said = row.steps.len().saturating_sub(behind.len());
     let (lines, asks) = part_asks(behind);

@@ -24,44 +24,10 @@ mod tapped_wire;
 mod texts;
 mod told;
 
-use anyhow::{Context, Result, bail};
-use following::Course;
-use limits::limits_of;
-use row_text::{Row, Words, rows_of};
-use rows::play_row;
-use std::{env, fs};
-
-/// Plays a row, and tells what came of it. Answers whether each step came to what it says.
-fn tell_row(rt: &HostRuntime, file: &str, row: &Row<'_>) -> Result<bool> {
-    let mut words = Words::of(row.name);
-    let name = words.word().context("it has no name")?;
-    let limits = limits_of(words).context("no such limits")?;
-    match play_row(rt.alloc(), limits, row.steps.as_slice())? {
-        Course::Played(count) => {
-            println!(rt; "{file} {name}: {count} steps")?;
-            Ok(true)
-        }
-        Course::Differs(line, found) => {
-            let wanted = line.text;
-            let line = line.line;
-            println!(rt; "{file}:{line}: {name}: wanted {wanted} found {found}")?;
-            Ok(false)
-        }
-    }
-}
-
-/// Plays the rows of a file. Answers how many differ.
-fn tell_file(rt: &HostRuntime, file: &str) -> Result<u64> {
-    let text = fs::read_to_string(rt, file)?;
-    let rows = rows_of(rt.alloc(), text.as_str())?.context("a step before the first row")?;
-    let mut differ = 0u64;
-    for row in &rows {
-        if !tell_row(rt, file, row).context(format_args!("row {}", row.name))? {
-            differ = differ.saturating_add(1);
-        }
-    }
-    Ok(differ)
-}
+use anyhow::{Context, Result};
+use row_text::{end, play_file};
+use rows::Engines;
+use std::env;
 
 fn main(rt: HostRuntime) -> Result<()> {
     let mut files = env::args(&rt)?;
@@ -69,11 +35,8 @@ fn main(rt: HostRuntime) -> Result<()> {
     let mut differ = 0u64;
     for file in files {
         let file = file.as_str();
-        let more = tell_file(&rt, file).context(format_args!("file {file}"))?;
-        differ = differ.saturating_add(more);
+        let more = play_file(&rt, rt.alloc(), &Engines {}, file);
+        differ = differ.saturating_add(more.context(format_args!("file {file}"))?);
     }
-    if differ > 0 {
-        bail!("{differ} rows differ");
-    }
-    Ok(())
+    end(differ)
 }

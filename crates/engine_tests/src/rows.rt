@@ -1,32 +1,42 @@
-//! A row is played.
+//! Rows, each from its outset to its end.
 
 ghost use Rattle.std.specs.Prelude.{◌≡◌, ◌≤◌, length};
 ghost use Rattle.std.specs.List.{All};
 ghost use Rattle.engine_tests.specs.Outside.{IsOver};
 ghost use Rattle.lease_words.specs.Views.{LibraryView};
 
-use crate::following::{Course, follow, follow_left};
+use crate::following::{follow, follow_left};
 use crate::gateway::Gateway;
 use crate::libraries::Libraries;
-use crate::limits::Limits;
+use crate::limits::{Limits, limits_of};
 use crate::making::{NotMade, Sides, make};
+use anyhow::{Context, Error};
 use engine_end::EngineRecord;
 use gate_io::{MOST_CONNECTIONS, MOST_DIALLED, NoMemory};
 use lease_core::MOST_LEASES;
 use lease_words::LibrarySeat;
 use library_desk::Shared;
-use row_text::Step as Line;
+use row_text::{Course, Player, Row, Step as Line, Words};
 use std::alloc::Global;
 
 /// The line at which a run ends.
 const ENDS: &str = "ends";
 
+/// The engines, as what plays rows: each row has one of its own, with its libraries.
+pub(crate) struct Engines {}
+
+impl Player for Engines {
+    fn play<'a>(&self, alloc: Global, row: &Row<'a>) -> Result<Course<'a>, Error> {
+        let mut words = Words::of(row.name);
+        let _name = words.word();
+        let limits = limits_of(words).context("no such limits")?;
+        let course = play_row(alloc, limits, row.steps.as_slice())?;
+        Ok(course)
+    }
+}
+
 /// Plays the lines of a row from the outset, within these limits.
-pub(crate) fn play_row<'a>(
-    alloc: Global,
-    limits: Limits,
-    lines: &[Line<'a>],
-) -> Result<Course<'a>, NotMade>
+fn play_row<'a>(alloc: Global, limits: Limits, lines: &[Line<'a>]) -> Result<Course<'a>, NotMade>
     requires connections { limits.connections ≤ MOST_CONNECTIONS }
     requires dials { limits.dials ≤ MOST_DIALLED }
     requires leases { (1 ≤ limits.leases) × (limits.leases ≤ MOST_LEASES) }
@@ -42,13 +52,13 @@ pub(crate) fn play_row<'a>(
     let mut libraries = Libraries::new(alloc, &shared, first, second, third);
     let (steps, rest) = lines.split_at(before_the_end(lines));
     let course = follow(alloc, &shared, &mut gateway, &mut libraries, steps)?;
-    match (course, rest.split_first()) {
-        (Course::Played(played), Some((_ends, behind))) => {
+    match (&course.fault, rest.split_first()) {
+        (None, Some((_ends, behind))) => {
             let seats = libraries.into_seats(alloc, &shared)?;
             let left = finish(alloc, &shared, gateway, seats)?;
-            Ok(follow_left(alloc, &left, behind, played.saturating_add(1))?)
+            Ok(follow_left(alloc, &left, behind, course.steps.saturating_add(1))?)
         }
-        (course, _) => Ok(course),
+        _ => Ok(course),
     }
 }
 

@@ -33,28 +33,13 @@ mod rows;
 mod shared;
 mod steps;
 
-use anyhow::{Context, Result, bail};
-use row_text::rows_of;
-use rows::is_as_wanted;
+use anyhow::{Context, Result};
+use row_text::{end, play_file};
+use rows::Libraries;
 use std::alloc::Global;
+use std::env;
 use std::rt::Runtime;
 use std::thread::Threads;
-use std::{env, fs};
-
-/// Plays the rows of a file. Answers how many aren't as wanted.
-fn play_file(rt: &impl Runtime, alloc: Global, file: &str) -> Result<u64> {
-    let text = fs::read_to_string(rt, file)?;
-    let Some(rows) = rows_of(alloc, text.as_str())? else {
-        bail!("a step before the first row");
-    };
-    let mut differ = 0u64;
-    for row in rows.as_slice() {
-        if !is_as_wanted(rt, alloc, file, row)? {
-            differ = differ.saturating_add(1);
-        }
-    }
-    Ok(differ)
-}
 
 /// Does what an argument names. Answers how many rows aren't as wanted.
 fn play(rt: &(impl Runtime + Threads), alloc: Global, name: &str) -> Result<u64> {
@@ -68,7 +53,7 @@ fn play(rt: &(impl Runtime + Threads), alloc: Global, name: &str) -> Result<u64>
         println!(rt; "relay: messages and sends came whole and in order")?;
         return Ok(0);
     }
-    play_file(rt, alloc, name)
+    play_file(rt, alloc, &Libraries {}, name)
 }
 
 fn main(rt: HostRuntime) -> Result<()> {
@@ -80,8 +65,5 @@ fn main(rt: HostRuntime) -> Result<()> {
         let others = play(&rt, rt.alloc(), name).context(format_args!("{name}"))?;
         differ = differ.saturating_add(others);
     }
-    if differ > 0 {
-        bail!("{differ} rows differ");
-    }
-    Ok(())
+    end(differ)
 }

@@ -7,15 +7,8 @@ use crate::shared::{Limits, Shared};
 use anyhow::Result;
 use gate_io::NoMemory;
 use library_play::Application;
-use row_text::{Row, Step, Words};
+use row_text::{Course, Fault, Player, Row, Step, Words};
 use std::alloc::Global;
-
-/// How far a row was played: to its end, in so many steps, or to a line that differs.
-#[derive(Drop)]
-enum Played {
-    All { steps: u64 },
-    To { line: usize, difference: String },
-}
 
 // The limits where a line says one of them. It is None where it says none, or one that can't be.
 fn limits_of(line: &str) -> Option<Limits> {
@@ -38,42 +31,46 @@ fn limits_of(line: &str) -> Option<Limits> {
 }
 
 // How a step differs from what it wants. It is None where it came to that.
-fn difference(
+fn fault_of<'a>(
     alloc: Global,
     engine: &mut Engine,
     library: &mut Application,
-    step: &str,
-) -> Result<Option<String>, NoMemory> {
-    let (command, wanted) = step.split_once(": ").unwrap_or((step, MADE));
+    step: &Step<'a>,
+) -> Result<Option<Fault<'a>>, NoMemory> {
+    let (command, wanted) = step.text.split_once(": ").unwrap_or((step.text, MADE));
     let Some(found) = answer(alloc, engine, library, command) else {
-        return Ok(Some(format!(in alloc; "not understood: {step}")?));
+        return Ok(Some(Fault::Unclear(*step)));
     };
     let found = found?;
     if found.as_str() == wanted {
         return Ok(None);
     }
-    Ok(Some(format!(in alloc; "{command}: wanted {wanted} .. found {found}")?))
+    Ok(Some(Fault::Differs {
+        line: step.line,
+        wanted: Some(wanted),
+        found: Some(found),
+    }))
 }
 
-fn play_steps(
+fn play_steps<'a>(
     alloc: Global,
     engine: &mut Engine,
     library: &mut Application,
-    steps: &[Step<'_>],
-) -> Result<Played, NoMemory> {
-    let mut played = 0u64;
-    for step in steps {
-        if let Some(difference) = difference(alloc, engine, library, step.text)? {
-            let line = step.line;
-            return Ok(Played::To { line, difference });
+    lines: &[Step<'a>],
+) -> Result<Course<'a>, NoMemory> {
+    let mut steps = 0u64;
+    for line in lines {
+        let fault = fault_of(alloc, engine, library, line)?;
+        if fault.is_some() {
+            return Ok(Course { steps, fault });
         }
-        played = played.saturating_add(1);
+        steps = steps.saturating_add(1);
     }
-    Ok(Played::All { steps: played })
+    Ok(Course { steps, fault: None })
 }
 
 // Plays the steps from the outset, with the limit that the first line says where it says one.
-fn play_row(alloc: Global, steps: &[Step<'_>]) -> Result<Played> {
+fn play_row<'a>(alloc: Global, steps: &[Step<'a>]) -> Result<Course<'a>> {
     let (limits, steps) = match steps {
         [first, rest @ ..] => match limits_of(first.text) {
             Some(limits) => (limits, rest),
@@ -86,22 +83,11 @@ fn play_row(alloc: Global, steps: &[Step<'_>]) -> Result<Played> {
     Ok(play_steps(alloc, &mut engine, &mut library, steps)?)
 }
 
-/// Plays a row of a file, and prints how it went. Answers whether all came to what it wants.
-pub(crate) fn is_as_wanted(
-    rt: &impl Print,
-    alloc: Global,
-    file: &str,
-    row: &Row<'_>,
-) -> Result<bool> {
-    let name = row.name;
-    match play_row(alloc, row.steps.as_slice())? {
-        Played::All { steps } => {
-            println!(rt; "{file} {name}: {steps} steps")?;
-            Ok(true)
-        }
-        Played::To { line, difference } => {
-            println!(rt; "{file}:{line}: {name}: {difference}")?;
-            Ok(false)
-        }
+/// The libraries, as what plays rows: each row has a new library and a new engine's side.
+pub(crate) struct Libraries {}
+
+impl Player for Libraries {
+    fn play<'a>(&self, alloc: Global, row: &Row<'a>) -> Result<Course<'a>> {
+        play_row(alloc, row.steps.as_slice())
     }
 }

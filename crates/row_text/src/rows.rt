@@ -9,23 +9,40 @@ pub struct Step<'a> {
     pub text: &'a str,
 }
 
-/// What stands from a line `row NAME` up to the next one.
+/// What stands from a line `row NAME` or `wrong NAME` up to the next one.
 #[derive(Debug, Drop)]
 pub struct Row<'a> {
     pub name: &'a str,
+    /// One of its steps is wrong on purpose: it shows that what steps come to is looked at.
+    pub is_wrong: bool,
     pub steps: Vec<Step<'a>>,
 }
 
-/// The rows of a text, in order; None where a step stands before the first `row` line.
+impl<'a> Row<'a> {
+    // The row that a line begins, if it does.
+    fn begun_by(alloc: Global, line: &'a str) -> Option<Row<'a>> {
+        let (name, is_wrong) = match line.strip_prefix("row ") {
+            Some(name) => (name, false),
+            None => (line.strip_prefix("wrong ")?, true),
+        };
+        let steps = Vec::new(alloc);
+        Some(Row {
+            name,
+            is_wrong,
+            steps,
+        })
+    }
+}
+
+/// The rows of a text, in order; None where a step stands before the first row.
 pub fn rows_of(alloc: Global, text: &str) -> Result<Option<Vec<Row<'_>>>, AllocError> {
     let mut rows: Vec<Row<'_>> = Vec::new(alloc);
     for (i, line) in text.lines().enumerate() {
         if line.is_empty() || line.starts_with('#') {
             continue;
         }
-        if let Some(name) = line.strip_prefix("row ") {
-            let steps = Vec::new(alloc);
-            rows.push(Row { name, steps })?;
+        if let Some(row) = Row::begun_by(alloc, line) {
+            rows.push(row)?;
             continue;
         }
         let step = Step {
