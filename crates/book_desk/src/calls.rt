@@ -226,7 +226,6 @@ pub fn time_out(
 
 /// Makes the texts of what waits until so many bytes are there.
 pub fn prepare(
-    alloc: Global,
     book: &SessionBook,
     connection: &mut Connection,
     limit: usize,
@@ -236,7 +235,7 @@ pub fn prepare(
     ensures out { connection.new ≡ record connection.old { out = connection.new.out } }
 {
     what_waits_can_be_written();
-    connection.prepare(alloc, book.outbound(), book.written_names(), limit)
+    connection.prepare(book.outbound(), book.written_names(), limit)
 }
 
 /// At most n bytes of what waits were written. Answers how many.

@@ -238,13 +238,7 @@ impl Connection {
     /// Makes the texts of items in order until at least `limit` bytes wait, or each item has one; of
     /// a dialled connection whose Logon isn't answered, that of the first item alone. Without memory
     /// the texts that were made stay.
-    pub fn prepare(
-        &mut self,
-        alloc: Global,
-        log: &OutLog,
-        names: &Names2,
-        limit: usize,
-    ) -> Result<(), NoMemory>
+    pub fn prepare(&mut self, log: &OutLog, names: &Names2, limit: usize) -> Result<(), NoMemory>
         requires named { All (NamesEntry log.now.series) self.old.out.outgoing.unmade }
         requires short { AreShort names.now }
         requires fit { HasFitBodies log.now.series }
@@ -264,9 +258,9 @@ impl Connection {
             → AreItemsOf names.now log.now.series items self.new.out.outgoing }
     {
         if self.answered {
-            self.out.prepare(alloc, log, names, limit)
+            self.out.prepare(log, names, limit)
         } else {
-            self.out.prepare_first(alloc, log, names)
+            self.out.prepare_first(log, names)
         }
     }
 

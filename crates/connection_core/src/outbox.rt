@@ -9,10 +9,10 @@ ghost use Rattle.resend_plan.specs.Fit.{AreShort, HasFitBodies};
 ghost use Rattle.connection_core.specs.Outgoing.{HasMore, after_making, after_preparing, after_preparing_first, after_writing, ends_behind, item_text, no_outgoing, waiting_count, waiting_text, with_items, written_text};
 ghost use Rattle.connection_core.specs.Items.{AreItemsOf};
 
-use fix_frame::{FrameError, write_frame};
+use fix_frame::{FrameError, put_frame};
 use gate_io::{Bytes, NoMemory};
 use message_log::OutLog;
-use resend_plan::{Names2, WireItem, wire_body};
+use resend_plan::{Names2, WireItem, fill_wire_body};
 use std::alloc::Global;
 use std::collections::VecDeque;
 use std::marker::Model;
@@ -28,6 +28,8 @@ pub struct Outbox {
     written: usize,
     ends: VecDeque<usize>,
     unmade: VecDeque<WireItem>,
+    /// The body of the item whose text was made last. It is kept for its room.
+    body: Vec<u8>,
 }
 
 impl Model for Outbox {
@@ -55,6 +57,7 @@ impl Outbox {
             written: 0,
             ends: VecDeque::new(alloc),
             unmade: VecDeque::new(alloc),
+            body: Vec::new(alloc),
         }
     }
 
@@ -101,13 +104,7 @@ impl Outbox {
 
     /// Makes the texts of items in order until at least `limit` bytes wait, or each item has one.
     /// Without memory the texts that were made stay.
-    pub fn prepare(
-        &mut self,
-        alloc: Global,
-        log: &OutLog,
-        names: &Names2,
-        limit: usize,
-    ) -> Result<(), NoMemory>
+    pub fn prepare(&mut self, log: &OutLog, names: &Names2, limit: usize) -> Result<(), NoMemory>
         requires named { All (NamesEntry log.now.series) self.old.outgoing.unmade }
         requires short { AreShort names.now }
         requires fit { HasFitBodies log.now.series }
@@ -124,18 +121,13 @@ impl Outbox {
             if self.waiting_bytes() >= limit {
                 return Ok(());
             }
-            self.make_text(alloc, log, names)?;
+            self.make_text(log, names)?;
         }
         Ok(())
     }
 
     /// Makes the text of the connection's first item, and of no other.
-    pub fn prepare_first(
-        &mut self,
-        alloc: Global,
-        log: &OutLog,
-        names: &Names2,
-    ) -> Result<(), NoMemory>
+    pub fn prepare_first(&mut self, log: &OutLog, names: &Names2) -> Result<(), NoMemory>
         requires named { All (NamesEntry log.now.series) self.old.outgoing.unmade }
         requires short { AreShort names.now }
         requires fit { HasFitBodies log.now.series }
@@ -146,7 +138,7 @@ impl Outbox {
             → AreItemsOf names.now log.now.series items self.new.outgoing }
     {
         if self.text.is_empty() && !self.unmade.is_empty() {
-            self.make_text(alloc, log, names)?;
+            self.make_text(log, names)?;
         }
         Ok(())
     }
@@ -166,7 +158,7 @@ impl Outbox {
     }
 
     /// Makes the text of the first item that has none.
-    fn make_text(&mut self, alloc: Global, log: &OutLog, names: &Names2) -> Result<(), NoMemory>
+    fn make_text(&mut self, log: &OutLog, names: &Names2) -> Result<(), NoMemory>
         requires some { 0 < length self.old.outgoing.unmade }
         requires named { All (NamesEntry log.now.series) self.old.outgoing.unmade }
         requires short { AreShort names.now }
@@ -176,9 +168,8 @@ impl Outbox {
         ensures spare { self.old.spare ≤ self.new.spare }
     {
         let item = *self.unmade.front().unwrap();
-        let frame = frame(alloc, &item, log, names)?;
         self.ends.reserve(1)?;
-        self.text.extend_from_slice(&frame)?;
+        put_text(&mut self.text, &mut self.body, &item, log, names)?;
         self.ends.push_back_reserved(self.text.len());
         self.unmade.pop_front();
         Ok(())
@@ -225,16 +216,24 @@ fn drop_ends(ends: &mut VecDeque<usize>, written: usize)
     }
 }
 
-/// The text of an item as it is written.
-fn frame(alloc: Global, item: &WireItem, log: &OutLog, names: &Names2) -> Result<Vec<u8>, NoMemory>
+/// Puts the text of an item as it is written behind a text. Its body is made in a vector that is kept for its
+/// room.
+fn put_text(
+    text: &mut Vec<u8>,
+    body: &mut Vec<u8>,
+    item: &WireItem,
+    log: &OutLog,
+    names: &Names2,
+) -> Result<(), NoMemory>
     requires named { NamesEntry log.now.series item.now }
     requires short { AreShort names.now }
     requires fit { HasFitBodies log.now.series }
-    ensures { IfOk result (λ text. text.items ≡ item_text names.now log.now.series item.now) }
+    ensures ok { OnOk result (text.new.items ≡ text.old.items ++ item_text names.now log.now.series item.now) }
+    ensures err { OnErr result (text.new.items ≡ text.old.items) }
 {
-    let body = wire_body(alloc, item, log, names)?;
-    match write_frame(alloc, &body) {
-        Ok(text) => Ok(text),
+    fill_wire_body(body, item, log, names)?;
+    match put_frame(text, body) {
+        Ok(()) => Ok(()),
         Err(FrameError::OutOfMemory) => Err(NoMemory::OutOfMemory),
         Err(FrameError::TooLong { .. }) => unreachable!(),
     }

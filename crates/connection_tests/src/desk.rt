@@ -98,8 +98,7 @@ impl Desk {
         ensures { self.new ≡ record self.old { out = self.new.out } }
     {
         items_have_text();
-        self.connection
-            .prepare(alloc, &self.log, &self.names, limit)?;
+        self.connection.prepare(&self.log, &self.names, limit)?;
         Ok(Vec::from_slice(alloc, self.connection.outbox().waiting(limit))?)
     }
 

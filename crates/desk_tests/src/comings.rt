@@ -102,6 +102,6 @@ pub fn come(
             counterparty::hear(alloc, shared, desk, k, body, at, until)
         }
         Coming::Ends(k, cause) => counterparty::end(shared, desk, k, cause),
-        Coming::Writes(k) => engine::write(alloc, shared, desk, k),
+        Coming::Writes(k) => engine::write(shared, desk, k),
     }
 }

@@ -180,12 +180,7 @@ pub fn dial(
 }
 
 /// All that can be written of a connection is. Says whether a session was ever bound to it.
-pub fn write(
-    alloc: Global,
-    shared: &Shared,
-    desk: &mut EngineDesk,
-    k: usize,
-) -> Result<bool, NoMemory>
+pub fn write(shared: &Shared, desk: &mut EngineDesk, k: usize) -> Result<bool, NoMemory>
     requires running { IsRunning shared.now desk.old }
     ensures running { OnOk result (IsRunning shared.now desk.new) }
 {
@@ -199,18 +194,12 @@ pub fn write(
     if usize::from(s) >= board.sessions() {
         return Ok(false);
     }
-    prepare(alloc, shared, desk, s, k)?;
+    prepare(shared, desk, s, k)?;
     Ok(write_all(shared, desk, k))
 }
 
 // Texts are made of what waits on the connection of a session.
-fn prepare(
-    alloc: Global,
-    _shared: &Shared,
-    desk: &mut EngineDesk,
-    s: u16,
-    k: usize,
-) -> Result<(), NoMemory>
+fn prepare(_shared: &Shared, desk: &mut EngineDesk, s: u16, k: usize) -> Result<(), NoMemory>
     requires running { IsRunning _shared.now desk.old }
     requires session { s < length desk.old.libraries.desk.board.sessions }
     requires connection { k < length desk.old.libraries.desk.board.connections }
@@ -224,7 +213,7 @@ fn prepare(
     sessions_proceed();
     cursors_stay();
     let board = &mut desk.libraries.desk.board;
-    board.prepare(alloc, s as usize, k, usize::MAX)?;
+    board.prepare(s as usize, k, usize::MAX)?;
     Ok(())
 }
 

@@ -47,7 +47,7 @@ impl Engine {
         ensures clock_stays { self.old.failed ≡ true → clock.new ≡ clock.old }
     {
         let taken = self.take(alloc, shared, wire, clock)?;
-        let turn = self.give(alloc, shared, wire, taken)?;
+        let turn = self.give(shared, wire, taken)?;
         Ok(turn)
     }
 
@@ -57,7 +57,6 @@ impl Engine {
     /// event whole, and from then on the engine does nothing more.
     pub fn give<W: Dial>(
         &mut self,
-        alloc: Global,
         shared: &Shared,
         wire: &mut W,
         taken: Taken,
@@ -77,7 +76,7 @@ impl Engine {
         if self.failed {
             return Err(NoMemory::OutOfMemory);
         }
-        match self.give_all(alloc, shared, wire) {
+        match self.give_all(shared, wire) {
             Ok(written) => Ok(Turn {
                 moment: taken.moment,
                 accepted: taken.accepted,
@@ -93,12 +92,7 @@ impl Engine {
     }
 
     /// What is published and written in a turn. Answers how many bytes were written.
-    fn give_all<W: Dial>(
-        &mut self,
-        alloc: Global,
-        shared: &Shared,
-        wire: &mut W,
-    ) -> Result<usize, NoMemory>
+    fn give_all<W: Dial>(&mut self, shared: &Shared, wire: &mut W) -> Result<usize, NoMemory>
         requires work { IsAtWork shared.now self.old }
         requires online { IsOnline self.old (W.door wire.old) (W.link wire.old) }
         requires room { HasRoomFor self.old.sessions.desk.board self.old.spare }
@@ -112,17 +106,12 @@ impl Engine {
         ensures failed { self.new.failed ≡ self.old.failed }
     {
         self.publish_all(shared);
-        let bytes = self.write_all(alloc, shared, wire)?;
+        let bytes = self.write_all(shared, wire)?;
         Ok(bytes)
     }
 
     /// Each connection that isn't closed is written to, and is closed if it has ended.
-    fn write_all<W: Dial>(
-        &mut self,
-        alloc: Global,
-        shared: &Shared,
-        wire: &mut W,
-    ) -> Result<usize, NoMemory>
+    fn write_all<W: Dial>(&mut self, shared: &Shared, wire: &mut W) -> Result<usize, NoMemory>
         requires work { IsAtWork shared.now self.old }
         requires online { IsOnline self.old (W.door wire.old) (W.link wire.old) }
         requires room { HasRoomFor self.old.sessions.desk.board self.old.spare }
@@ -140,6 +129,6 @@ impl Engine {
         let desk = &mut self.sessions.desk;
         let dialler = &mut self.dialler;
         self.lines
-            .write_all_open(alloc, desk, &shared.leases, dialler, wire, self.moment)
+            .write_all_open(desk, &shared.leases, dialler, wire, self.moment)
     }
 }

@@ -16,14 +16,12 @@ use crate::records::{Taken, Turn};
 use durable_journal::{Disk, Journal};
 use gate_io::{Dial, NoMemory};
 use library_desk::Shared;
-use std::alloc::Global;
 
 impl Engine {
     /// The second half of a turn, as `give`, over a journal that keeps each entry of each session and in which
     /// nothing waits: so each entry of which a connection took a byte is on the disk before.
     pub fn give_kept<W: Dial, D: Disk>(
         &mut self,
-        alloc: Global,
         shared: &Shared,
         wire: &mut W,
         taken: Taken,
@@ -46,7 +44,7 @@ impl Engine {
         ensures wire_stays { self.old.failed ≡ true → wire.new ≡ wire.old }
     {
         gives_begin_texts();
-        let turn = self.give(alloc, shared, wire, taken)?;
+        let turn = self.give(shared, wire, taken)?;
         Ok(turn)
     }
 }

@@ -1,8 +1,8 @@
 //! Putting a body into a frame.
 
-ghost use Rattle.std.specs.Prelude.{◌≡◌, ◌≢◌, ◌+◌, ◌*◌, ◌^◌, ◌<◌, ◌≤◌, ◌↔◌, ◌++◌, ◌∷◌, [], List, ℕ, Some, IfOk, OnOk, IsTrue, decimal, length};
+ghost use Rattle.std.specs.Prelude.{◌≡◌, ◌≢◌, ◌+◌, ◌*◌, ◌^◌, ◌<◌, ◌≤◌, ◌↔◌, ◌++◌, ◌∷◌, [], List, ℕ, Some, IfOk, OnErr, OnOk, IsTrue, decimal, length};
 ghost use Rattle.fix_frame.specs.declared.write.FrameError.TheVariants.{OutOfMemory};
-ghost use Rattle.fix_frame.specs.Frame.{IsBody, frame_of, three_digits};
+ghost use Rattle.fix_frame.specs.Frame.{IsBody, checksum as sum_before_trailer, frame_of, three_digits};
 ghost use Rattle.fix_frame.specs.Cut.{cut, good, onto};
 ghost use Rattle.fix_frame.specs.Printed.{text_of};
 
@@ -101,19 +101,60 @@ pub fn write_frame(alloc: Global, body: &[u8]) -> Result<Vec<u8>, FrameError>
 
 /// The frame of a body, whose length has these digits, in a vector with room for so many bytes.
 fn framed(alloc: Global, digits: &str, body: &[u8], room: usize) -> Result<Vec<u8>, AllocError>
-    requires { digits.now ≡ decimal (length body.now) }
+    requires digits { digits.now ≡ decimal (length body.now) }
+    requires short { length digits.now ≤ 40 }
     ensures { IfOk result (λ frame. frame.items ≡ frame_of body.now) }
 {
     let mut frame = Vec::with_capacity(alloc, room)?;
-    frame.extend_from_slice(HEAD)?;
-    frame.extend_from_slice(digits.as_bytes())?;
-    frame.push(SOH)?;
-    frame.extend_from_slice(body)?;
-    let sum = checksum(&frame);
-    frame.extend_from_slice(&BODY_END[1..])?;
-    frame.extend_from_slice(&three_digits(sum))?;
-    frame.push(SOH)?;
+    put_framed(&mut frame, digits, body)?;
     Ok(frame)
+}
+
+/// The frame of a body, as `write_frame` has it, at the end of a text. It asks for all the memory first, so
+/// where no frame is written the text is as it was.
+pub fn put_frame(text: &mut Vec<u8>, body: &[u8]) -> Result<(), FrameError>
+    requires { IsBody body.now }
+    ensures frame { OnOk result (text.new.items ≡ text.old.items ++ frame_of body.now) }
+    ensures unchanged { OnErr result (text.new.items ≡ text.old.items) }
+    ensures short { OnOk result (length (frame_of body.now) ≤ LONGEST_FRAME) }
+    ensures too_long { (n : ℕ) → (result ≡ Err (FrameError.TooLong n)) ↔ ((n ≡ length (frame_of body.now)) × (LONGEST_FRAME < n)) }
+    ensures fits { length body.now ≤ LONGEST_BODY → (n : ℕ) → result ≢ Err (FrameError.TooLong n) }
+{
+    let mut buffer = Buffer::new();
+    let digits = buffer.format(body.len());
+    let length = len_with(digits, body);
+    if length <= LONGEST_FRAME {
+        put_framed(text, digits, body)?;
+        return Ok(());
+    }
+    Err(FrameError::TooLong { length })
+}
+
+/// The frame of a body, whose length has these digits, at the end of a text.
+fn put_framed(text: &mut Vec<u8>, digits: &str, body: &[u8]) -> Result<(), AllocError>
+    requires digits { digits.now ≡ decimal (length body.now) }
+    requires short { length digits.now ≤ 40 }
+    ensures ok { OnOk result (text.new.items ≡ text.old.items ++ frame_of body.now) }
+    ensures err { OnErr result (text.new.items ≡ text.old.items) }
+{
+    let sum = sum_of(digits, body);
+    text.reserve(len_with(digits, body))?;
+    text.extend_from_slice(HEAD)?;
+    text.extend_from_slice(digits.as_bytes())?;
+    text.push(SOH)?;
+    text.extend_from_slice(body)?;
+    text.extend_from_slice(&BODY_END[1..])?;
+    text.extend_from_slice(&three_digits(sum))?;
+    text.push(SOH)?;
+    Ok(())
+}
+
+/// The sum of all bytes of a frame before `10=`, modulo 256, where these are the digits of the body's length.
+fn sum_of(digits: &str, body: &[u8]) -> u8
+    ensures { result ≡ sum_before_trailer digits.now body.now }
+{
+    let before = checksum(HEAD).wrapping_add(checksum(digits.as_bytes()));
+    before.wrapping_add(SOH).wrapping_add(checksum(body))
 }
 
 /// Three decimal digits.

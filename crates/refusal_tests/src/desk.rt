@@ -126,8 +126,8 @@ impl Desk {
     }
 
     /// The texts of what waits are made.
-    pub fn prepare(&mut self, alloc: Global) -> Result<(), NoMemory> {
-        book_desk::prepare(alloc, &self.book, &mut self.connection, MOST_WRITTEN)
+    pub fn prepare(&mut self) -> Result<(), NoMemory> {
+        book_desk::prepare(&self.book, &mut self.connection, MOST_WRITTEN)
     }
 
     /// The texts that were made.

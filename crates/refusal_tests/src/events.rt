@@ -97,7 +97,7 @@ impl Desk {
             }
             Event::Prepare(text) => {
                 let wanted = soh(alloc, text)?;
-                self.prepare(alloc)?;
+                self.prepare()?;
                 Ok(self.waiting() == wanted.as_slice())
             }
             _ => Ok(false),

@@ -14,4 +14,4 @@ pub use fix_fields::{LONGEST_APPLICATION_BODY, LONGEST_NAME};
 pub use item::{LONGEST_GAP_FILL, LONGEST_HEADER, Names2, WireItem};
 pub use laws::{items_stay, logs_stay_fit, plans_answer, texts_are_bodies};
 pub use planning::plan;
-pub use wire::wire_body;
+pub use wire::{fill_wire_body, wire_body};

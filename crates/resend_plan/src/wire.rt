@@ -35,81 +35,100 @@ pub fn wire_body(
     ensures frame { AreShort names.now → HasFitBodies log.now.series
         → IfOk result (λ body. IsBody body.items × (length (frame_of body.items) ≤ LONGEST_FRAME)) }
 {
-    item_body(alloc, item, log, names)
+    let mut body = Vec::with_capacity(alloc, ROOM)?;
+    fill_item_body(&mut body, item, log, names)?;
+    Ok(body)
 }
 
-fn item_body(
-    alloc: Global,
+/// The same in a vector that is kept for its room: the body takes the place of what it held. Without
+/// memory it may hold anything.
+pub fn fill_wire_body(
+    body: &mut Vec<u8>,
     item: &WireItem,
     log: &OutLog,
     names: &Names2,
-) -> Result<Vec<u8>, NoMemory>
+) -> Result<(), NoMemory>
     requires { NamesEntry log.now.series item.now }
-    ensures text { IfOk result (λ body. body.items ≡ body_of names.now log.now.series item.now) }
+    ensures text { OnOk result (body.new.items ≡ body_of names.now log.now.series item.now) }
+    // Within the limits of names and logged bodies, `put_frame` takes it and doesn't find it too long.
+    ensures frame { AreShort names.now → HasFitBodies log.now.series
+        → OnOk result (IsBody body.new.items × (length (frame_of body.new.items) ≤ LONGEST_FRAME)) }
+{
+    fill_item_body(body, item, log, names)
+}
+
+fn fill_item_body(
+    body: &mut Vec<u8>,
+    item: &WireItem,
+    log: &OutLog,
+    names: &Names2,
+) -> Result<(), NoMemory>
+    requires { NamesEntry log.now.series item.now }
+    ensures text { OnOk result (body.new.items ≡ body_of names.now log.now.series item.now) }
     ensures in_range { HasNumbersInRange item.now }
 {
     match *item {
         WireItem::New { series, number } => {
             let entry = log.entry(series, number).unwrap();
-            entry_body(alloc, names, entry, number, entry.at, None)
+            fill_entry_body(body, names, entry, number, entry.at, None)
         }
         WireItem::Again { series, number, at } => {
             let entry = log.entry(series, number).unwrap();
-            entry_body(alloc, names, entry, number, at, Some(entry.at))
+            fill_entry_body(body, names, entry, number, at, Some(entry.at))
         }
-        WireItem::GapFill { number, to, at, .. } => gap_fill(alloc, names, number, to, at),
+        WireItem::GapFill { number, to, at, .. } => fill_reset_body(body, names, number, to, at),
     }
 }
 
-fn entry_body(
-    alloc: Global,
+fn fill_entry_body(
+    body: &mut Vec<u8>,
     names: &Names2,
     entry: &OutEntry,
     number: u64,
     at: u64,
     original: Option<u64>,
-) -> Result<Vec<u8>, NoMemory>
-    ensures { IfOk result (λ body. body.items ≡ message names.now (type_field entry.now.body) number
+) -> Result<(), NoMemory>
+    ensures { OnOk result (body.new.items ≡ message names.now (type_field entry.now.body) number
         (times at original) (behind_type entry.now.body)) }
 {
     let (kind, rest) = split_type(entry.body.as_slice());
-    let mut body = header(alloc, names, kind, number)?;
-    push_times(&mut body, at, original)?;
+    fill_header(body, names, kind, number)?;
+    push_times(body, at, original)?;
     body.extend_from_slice(rest)?;
-    Ok(body)
+    Ok(())
 }
 
 /// A SequenceReset that fills a gap, from a number on and up to the next number behind it.
-fn gap_fill(
-    alloc: Global,
+fn fill_reset_body(
+    body: &mut Vec<u8>,
     names: &Names2,
     number: u64,
     to: u64,
     at: u64,
-) -> Result<Vec<u8>, NoMemory>
-    ensures { IfOk result (λ body. body.items ≡ message names.now reset_type number
+) -> Result<(), NoMemory>
+    ensures { OnOk result (body.new.items ≡ message names.now reset_type number
         (times at (Some at)) (field_of 123 (codes "Y") ++ field_of 36 (decimal to))) }
 {
     let mut digits = Buffer::new();
-    let mut body = header(alloc, names, b"35=4\x01", number)?;
-    push_times(&mut body, at, Some(at))?;
-    put_field(&mut body, 123, b"Y")?;
-    put_field(&mut body, 36, digits.format(to).as_bytes())?;
-    Ok(body)
+    fill_header(body, names, b"35=4\x01", number)?;
+    push_times(body, at, Some(at))?;
+    put_field(body, 123, b"Y")?;
+    put_field(body, 36, digits.format(to).as_bytes())?;
+    Ok(())
 }
 
-/// The type field, and the fields up to the number.
+/// The type field, and the fields up to the number, in place of what the body held.
 #[tactic(auto, unfolding(crate::specs::Wire::header))]
-fn header(alloc: Global, names: &Names2, kind: &[u8], number: u64) -> Result<Vec<u8>, NoMemory>
-    ensures { IfOk result (λ body. body.items ≡ header names.now kind.now number) }
+fn fill_header(body: &mut Vec<u8>, names: &Names2, kind: &[u8], number: u64) -> Result<(), NoMemory>
+    ensures { OnOk result (body.new.items ≡ header names.now kind.now number) }
 {
     let mut digits = Buffer::new();
-    let mut body = Vec::with_capacity(alloc, ROOM)?;
+    body.clear();
     body.extend_from_slice(kind)?;
-    put_field(&mut body, 49, names.us.as_slice())?;
-    put_field(&mut body, 56, names.them.as_slice())?;
-    put_field(&mut body, 34, digits.format(number).as_bytes())?;
-    Ok(body)
+    put_field(body, 49, names.us.as_slice())?;
+    put_field(body, 56, names.them.as_slice())?;
+    put_field(body, 34, digits.format(number).as_bytes())?;
+    Ok(())
 }
 
 /// The moment of sending, and for what is sent again the mark of that and the first one.

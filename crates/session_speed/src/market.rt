@@ -191,7 +191,7 @@ impl Answerer {
         requires market { IsOpen board.old }
         ensures market { OnOk result (IsOpen board.new) }
     {
-        prepare(alloc, board)?;
+        prepare(board)?;
         let n = wrote(board);
         self.written = self.written.saturating_add(n as u64);
         Ok(())
@@ -265,7 +265,7 @@ fn bind(
 }
 
 /// The texts of what waits are made.
-fn prepare(alloc: Global, board: &mut Switchboard) -> Result<(), anyhow::Error>
+fn prepare(board: &mut Switchboard) -> Result<(), anyhow::Error>
     requires market { IsOpen board.old }
     ensures market { OnOk result (IsOpen board.new) }
 {
@@ -274,7 +274,7 @@ fn prepare(alloc: Global, board: &mut Switchboard) -> Result<(), anyhow::Error>
     let Some(k) = board.place(0) else {
         bail!("the session is not bound");
     };
-    board.prepare(alloc, 0, k, MOST_WRITTEN)?;
+    board.prepare(0, k, MOST_WRITTEN)?;
     Ok(())
 }
 

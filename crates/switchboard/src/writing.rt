@@ -15,13 +15,7 @@ impl Switchboard {
     /// Makes the texts of items of a connection, whose session is `s`, until at least `limit` bytes
     /// wait, or each item has one; of a dialled connection whose Logon isn't answered, that of the
     /// first item alone.
-    pub fn prepare(
-        &mut self,
-        alloc: Global,
-        s: usize,
-        k: usize,
-        limit: usize,
-    ) -> Result<(), NoMemory>
+    pub fn prepare(&mut self, s: usize, k: usize, limit: usize) -> Result<(), NoMemory>
         requires session { s < length self.old.sessions }
         requires connection { k < length self.old.connections }
         requires named { All (NamesEntry (book_at self.old s).outbound) (connection_at self.old k).out.outgoing.unmade }
@@ -37,7 +31,7 @@ impl Switchboard {
             ≡ after_preparing (names_at self.old s) (book_at self.old s).outbound limit (connection_at self.old k).out.outgoing }
     {
         let session = &self.sessions[s];
-        self.connections[k].prepare(alloc, session.outbound(), session.written_names(), limit)
+        self.connections[k].prepare(session.outbound(), session.written_names(), limit)
     }
 
     /// The next n bytes of those that wait on a connection were written.

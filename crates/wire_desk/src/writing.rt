@@ -29,7 +29,6 @@ use lease_desk::laws::boards_stay_in_step;
 use lease_words::Leases;
 use session_core::Cause;
 use session_desk::laws::sessions_proceed;
-use std::alloc::Global;
 use switchboard::Switchboard;
 use switchboard::laws::{boards_go_on, boards_stay_ready, ready_boards_allow, stops_are_told};
 
@@ -39,7 +38,6 @@ impl WireDesk {
     /// which too many items wait. One that has ended is closed.
     pub fn write<W: Wire>(
         &self,
-        alloc: Global,
         desk: &mut LeaseDesk,
         leases: &Leases,
         wire: &mut W,
@@ -66,7 +64,7 @@ impl WireDesk {
         sessions_proceed();
         lines_progress();
         stops_are_told();
-        prepare(alloc, desk, k)?;
+        prepare(desk, k)?;
         let written = write_all(desk, wire, k);
         end_behind(desk, k, written.stop)?;
         close_if_ended(desk, wire, k);
@@ -78,7 +76,6 @@ impl WireDesk {
     /// many bytes were written on all of them.
     pub fn write_all_open<W: Wire>(
         &mut self,
-        alloc: Global,
         desk: &mut LeaseDesk,
         leases: &Leases,
         dialler: &mut Dialler,
@@ -111,7 +108,7 @@ impl WireDesk {
         ensures made { dialler.new ≡ record dialler.old { next = dialler.new.next } }
     {
         dialling_goes_on();
-        let bytes = self.write_each(alloc, desk, leases, wire)?;
+        let bytes = self.write_each(desk, leases, wire)?;
         dialler.wait_behind_ended(desk, self, at);
         self.drop_ended(desk);
         Ok(bytes)
@@ -120,7 +117,6 @@ impl WireDesk {
     /// Writes to each connection that isn't closed, in the order of their numbers.
     fn write_each<W: Wire>(
         &self,
-        alloc: Global,
         desk: &mut LeaseDesk,
         leases: &Leases,
         wire: &mut W,
@@ -146,7 +142,7 @@ impl WireDesk {
         let mut bytes = 0;
         for i in 0..self.open_count() {
             let k = self.open_place(i);
-            let written = self.write(alloc, desk, leases, wire, k)?;
+            let written = self.write(desk, leases, wire, k)?;
             bytes += written.bytes;
         }
         Ok(bytes)
@@ -178,7 +174,7 @@ fn stands(board: &Switchboard, k: usize) -> bool
 }
 
 /// Makes the texts of what waits on a connection, as much as a turn has for it.
-fn prepare(alloc: Global, desk: &mut LeaseDesk, k: usize) -> Result<(), NoMemory>
+fn prepare(desk: &mut LeaseDesk, k: usize) -> Result<(), NoMemory>
     requires steady { IsSteady desk.old.board desk.old.seat }
     requires connection { k < length desk.old.board.connections }
     ensures prepares { OnOk result (PreparesTo (connection_at desk.old.board k).session k desk.old.board desk.new.board) }
@@ -195,7 +191,7 @@ fn prepare(alloc: Global, desk: &mut LeaseDesk, k: usize) -> Result<(), NoMemory
     boards_go_on();
     ready_boards_allow();
     match desk.board.connection(k).session() {
-        Some(s) => desk.board.prepare(alloc, usize::from(s), k, MOST_WRITTEN),
+        Some(s) => desk.board.prepare(usize::from(s), k, MOST_WRITTEN),
         None => Ok(()),
     }
 }
