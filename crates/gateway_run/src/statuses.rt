@@ -1,3 +1,5 @@
+//! How a command ends, and with which status.
+
 ghost use Rattle.std.specs.Prelude.{◌≡◌, Some};
 ghost use Rattle.gateway_run.specs.Codes.{code_of, line_of};
 
