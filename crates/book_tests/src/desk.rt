@@ -62,8 +62,10 @@ impl Desk {
     pub fn new(alloc: Global, leases: u32) -> Result<Desk, NoMemory> {
         let us = Vec::from_slice(alloc, b"GATE")?;
         let them = Vec::from_slice(alloc, b"BUYER")?;
+        let connection = Connection::accepted(alloc, 0, T)?;
+        let past = Connection::accepted(alloc, 0, T)?;
         let book = SessionBook::new(alloc, us, them, leases)?;
-        Desk::with_book(alloc, book, false)
+        Ok(Desk::with_book(alloc, book, false, connection, past))
     }
 
     /// A session that dials, and expects this number.
@@ -73,26 +75,37 @@ impl Desk {
     {
         let us = Vec::from_slice(alloc, b"GATE")?;
         let them = Vec::from_slice(alloc, b"BUYER")?;
+        let connection = Connection::accepted(alloc, 0, T)?;
+        let past = Connection::accepted(alloc, 0, T)?;
         let nothing = Revival::new(alloc, leases)?;
         let book = SessionBook::resume(alloc, nothing, us, them, Some(HEART), expected, 0)?;
-        Desk::with_book(alloc, book, true)
+        Ok(Desk::with_book(alloc, book, true, connection, past))
     }
 
-    fn with_book(alloc: Global, book: SessionBook, dials: bool) -> Result<Desk, NoMemory>
+    /// Nothing waits on the two connections.
+    fn with_book(
+        alloc: Global,
+        book: SessionBook,
+        dials: bool,
+        connection: Connection,
+        past: Connection,
+    ) -> Desk
         requires accepts { dials ≡ false → book.book.machine.dials ≡ None }
         requires asks { dials ≡ true → IsSome book.book.machine.dials }
+        requires here { connection.out.outgoing ≡ no_outgoing }
+        requires there { past.out.outgoing ≡ no_outgoing }
     {
         items_stay_queued();
-        Ok(Desk {
+        Desk {
             book,
             dials,
-            connection: Connection::accepted(alloc, 0, T)?,
-            past: Connection::accepted(alloc, 0, T)?,
+            connection,
+            past,
             stands: false,
             moment: T,
             count: 0,
             records: Vec::new(alloc),
-        })
+        }
     }
 
     pub fn book(&self) -> &SessionBook {
@@ -368,12 +381,39 @@ impl Desk {
         write(alloc, &self.book, &mut self.past, n)
     }
 
-    /// What the run leaves: the session's book, and the records of its connections.
-    pub fn finish(self) -> Result<(SessionBook, Vec<ConnRecord>), NoMemory> {
-        let mut records = self.records;
-        records.push(self.past.into_record())?;
-        records.push(self.connection.into_record())?;
-        Ok((self.book, records))
+    pub fn finish(self) -> Left {
+        Left {
+            records: self.records,
+            past: self.past.into_record(),
+            last: self.connection.into_record(),
+            book: self.book,
+        }
+    }
+}
+
+/// What a run leaves: the session's book, and the records of its connections.
+#[derive(Drop)]
+pub struct Left {
+    pub book: SessionBook,
+    records: Vec<ConnRecord>,
+    past: ConnRecord,
+    last: ConnRecord,
+}
+
+impl Left {
+    /// How many connections there were. The first two were there before any that came.
+    pub fn connections(&self) -> usize {
+        self.records.len().saturating_add(2)
+    }
+
+    /// The record of the connection at this place.
+    pub fn record(&self, place: usize) -> Option<&ConnRecord> {
+        match place.checked_sub(self.records.len()) {
+            None => self.records.get(place),
+            Some(0) => Some(&self.past),
+            Some(1) => Some(&self.last),
+            Some(_) => None,
+        }
     }
 }
 
@@ -411,7 +451,7 @@ fn write(
     ensures written { CanBeWritten book.now.book connection.new.out.outgoing }
     ensures out { connection.new ≡ record connection.old { out = connection.new.out } }
 {
-    book_desk::prepare(alloc, book, connection, n)?;
+    book_desk::prepare(book, connection, n)?;
     let bytes = Vec::from_slice(alloc, connection.outbox().waiting(n))?;
     book_desk::write(book, connection, n);
     Ok(bytes)

@@ -1,3 +1,4 @@
+//! What the generated runs draw.
 ghost use Rattle.std.specs.Prelude.{◌<◌};
 
 use rand_core::utils::NextWord;

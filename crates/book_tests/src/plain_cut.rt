@@ -6,7 +6,7 @@ use gate_io::NoMemory;
 use std::alloc::Global;
 
 /// A piece: a body, or so many garbled bytes.
-#[derive(Debug, Drop)]
+#[derive(Drop)]
 pub enum PlainPiece {
     Good(Vec<u8>),
     Garbled(usize),

@@ -11,7 +11,7 @@ use session_core::{Act, Admin, Cause, Effects, Names, Session, admin_body, route
 use std::alloc::Global;
 
 /// What happens to a session and to the last of its connections.
-#[derive(Debug, Drop)]
+#[derive(Drop)]
 pub enum Happening {
     Connects,
     Comes(Vec<u8>),

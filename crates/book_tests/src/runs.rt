@@ -1,27 +1,36 @@
-//! Generated runs beside the plain telling of all that happened.
+//! Generated runs, each beside the plain telling of all that happened in it.
 ghost use Rattle.std.specs.Prelude.{IfOk};
 ghost use Rattle.std.specs.List.{All};
 ghost use Rattle.resend_plan.specs.Fit.{IsFit};
 
-use crate::desk::Desk;
+use crate::comparing::{Difference, told_to_wait, what_differs};
+use crate::desk::{Desk, Left};
 use crate::draw::Draw;
 use crate::draw_text::{draw_bytes, draw_logon, draw_message};
-use crate::plain_run::{Happening, PlainConnection, PlainEntry, PlainRun};
+use crate::plain_run::{Happening, PlainRun};
+use crate::tally::Tally;
 use crate::texts::T;
+use anyhow::bail;
 use book_desk::put_body;
-use connection_core::ConnRecord;
 use gate_io::{Bytes, NoMemory};
 use lease_core::{Standing, Word};
-use message_log::OutLog;
-use session_book::SessionBook;
 use session_core::Cause;
 use std::alloc::Global;
 use std::collections::VecDeque;
-use std::process::Abort;
-use std::test::Fail;
+
+/// How many runs are made, each of so many steps.
+const RUNS: u32 = 200;
+
+const STEPS: u32 = 200;
+
+/// The seed of all draws.
+const SEED: u64 = 23;
 
 /// How often the session can be granted.
 const LEASES: u32 = 6;
+
+/// More bytes than ever wait.
+const ALL: usize = 1_048_576;
 
 /// A desk, what happened at it, the bytes that are still to come, the number that the next message
 /// has, and how many bytes were written on the last connection.
@@ -38,7 +47,7 @@ struct Run {
 
 impl Run {
     fn new(alloc: Global) -> Result<Run, NoMemory> {
-        let mut run = Run {
+        Ok(Run {
             desk: Desk::new(alloc, LEASES)?,
             happened: Vec::new(alloc),
             coming: Vec::new(alloc),
@@ -46,9 +55,7 @@ impl Run {
             past: 0,
             written: 0,
             asked: 0,
-        };
-        run.connect(alloc)?;
-        Ok(run)
+        })
     }
 
     fn note(&mut self, happening: Happening) -> Result<(), NoMemory> {
@@ -189,35 +196,12 @@ impl Run {
         }
     }
 
-    fn go(&mut self, alloc: Global, draw: &mut Draw, steps: u32) -> Result<(), NoMemory> {
-        for _ in 0..steps {
+    fn go(&mut self, alloc: Global, draw: &mut Draw) -> Result<(), NoMemory> {
+        self.connect(alloc)?;
+        for _ in 0..STEPS {
             self.step(alloc, draw)?;
         }
         Ok(())
-    }
-}
-
-fn compare(rt: &impl Abort, book: &SessionBook, records: &[ConnRecord], plain: &PlainRun) {
-    assert_eq!(rt; book.entries(), plain.journal.as_slice());
-    compare_logs(rt, book, plain);
-    compare_connections(rt, records, plain.connections.as_slice());
-}
-
-/// The first two records were there before the first connection that was accepted.
-fn compare_connections(rt: &impl Abort, records: &[ConnRecord], told: &[PlainConnection]) {
-    assert_eq!(rt; records.len(), told.len().saturating_add(2));
-    let mut left = told.len();
-    for (record, told) in records.iter().skip(2).zip(told.iter()) {
-        compare_connection(rt, record, told, left == 1);
-        left = left.saturating_sub(1);
-    }
-}
-
-/// How many items of the last connection aren't written whole.
-fn waiting_items(connections: &[PlainConnection], written: usize) -> u64 {
-    match connections.last() {
-        Some(c) => c.ends.iter().filter(|end| **end > written).count() as u64,
-        None => 0,
     }
 }
 
@@ -240,91 +224,58 @@ fn copies_of(alloc: Global, bodies: &[Vec<u8>]) -> Result<VecDeque<Bytes>, NoMem
     Ok(copies)
 }
 
-fn compare_logs(rt: &impl Abort, book: &SessionBook, plain: &PlainRun) {
-    let inbound = book.inbound();
-    assert_eq!(rt; inbound.len(), plain.inbound.len() as u64);
-    for (pos, body) in plain.inbound.iter().enumerate() {
-        assert!(rt; inbound.body(pos as u64) == Some(body.as_slice()), "{pos}");
-    }
-    let outbound = book.outbound();
-    assert_eq!(rt; u64::from(outbound.series()), plain.series.len() as u64);
-    let mut series = 0u32;
-    for entries in &plain.series {
-        series = series.wrapping_add(1);
-        assert_eq!(rt; outbound.len_of(series), Some(entries.len() as u64));
-        let mut number = 0u64;
-        for entry in entries {
-            number = number.wrapping_add(1);
-            assert!(rt;
-                is_entry(outbound, series, number, entry),
-                "{series} {number}"
-            );
-        }
-    }
-}
-
-fn is_entry(log: &OutLog, series: u32, number: u64, told: &PlainEntry) -> bool {
-    log.entry(series, number).is_some_and(|entry| {
-        entry.at == told.at
-            && entry.admin == told.is_filled()
-            && entry.body.as_slice() == told.body.as_slice()
-    })
-}
-
-fn compare_connection(rt: &impl Abort, record: &ConnRecord, told: &PlainConnection, is_last: bool) {
-    assert!(rt; record.taken.as_slice() == told.taken.as_slice());
-    assert_eq!(rt; record.garbled, told.garbled);
-    assert_eq!(rt; record.cause, told.cause);
-    assert_eq!(rt; record.session.is_some(), told.bound);
-    let written = record.written.as_slice();
-    assert!(rt; told.text.as_slice().starts_with(written));
-    assert!(rt; !is_last || written.len() == told.text.len());
-}
-
-/// A run of 200 steps.
-fn make_run(alloc: Global, draw: &mut Draw) -> Result<Run, NoMemory> {
-    let mut run = Run::new(alloc)?;
-    run.go(alloc, draw, 200)?;
-    Ok(run)
-}
-
-/// Compares what a run leaves with a plain telling. So many bytes were written on the last connection.
-fn compare_run(
-    rt: &impl Abort,
-    alloc: Global,
-    mut desk: Desk,
-    written: usize,
-    plain: &PlainRun,
-) -> Result<(), NoMemory> {
-    let waiting = desk.connection().waiting_items();
-    assert_eq!(rt;
-        waiting,
-        waiting_items(plain.connections.as_slice(), written)
-    );
-    desk.write(alloc, 1_048_576)?;
-    let (book, records) = desk.finish()?;
-    compare(rt, &book, records.as_slice(), plain);
-    Ok(())
-}
-
 /// What happened, told plainly.
-fn tell(alloc: Global, happened: Vec<(u64, Happening)>) -> Result<PlainRun, NoMemory> {
+fn tell(alloc: Global, happened: &[(u64, Happening)]) -> Result<PlainRun, NoMemory> {
     let mut plain = PlainRun::new(alloc, LEASES)?;
-    plain.tell(alloc, happened.as_slice())?;
+    plain.tell(alloc, happened)?;
     Ok(plain)
 }
 
-fn tell_and_compare(rt: &impl Abort, alloc: Global, run: Run) -> Result<(), NoMemory> {
-    let plain = tell(alloc, run.happened)?;
-    compare_run(rt, alloc, run.desk, run.written, &plain)
+/// Makes the steps of a run, writes what still waits then, and tells plainly what happened. Says besides how
+/// many items waited.
+fn play(alloc: Global, draw: &mut Draw, run: &mut Run) -> Result<(PlainRun, u64), NoMemory> {
+    run.go(alloc, draw)?;
+    let waiting = run.desk.connection().waiting_items();
+    run.desk.write(alloc, ALL)?;
+    let plain = tell(alloc, run.happened.as_slice())?;
+    Ok((plain, waiting))
 }
 
-#[test]
-fn generated_runs_are_told_alike(rt: HostRuntime) -> Result<(), Fail> {
-    let mut draw = Draw::new(23);
-    for _ in 0..200 {
-        let run = make_run(rt.alloc(), &mut draw)?;
-        tell_and_compare(&rt, rt.alloc(), run)?;
+/// Makes a run, adds its entries to the tally, and says what of it isn't as it is told plainly.
+fn try_run(
+    alloc: Global,
+    draw: &mut Draw,
+    tally: &mut Tally,
+) -> Result<Option<Difference>, NoMemory> {
+    let mut run = Run::new(alloc)?;
+    let told = play(alloc, draw, &mut run);
+    let written = run.written;
+    let left = run.desk.finish();
+    tally.add(left.book.entries());
+    compare(&left, written, told)
+}
+
+// Where so many bytes of the last connection were written, and this is told.
+fn compare(
+    left: &Left,
+    written: usize,
+    told: Result<(PlainRun, u64), NoMemory>,
+) -> Result<Option<Difference>, NoMemory> {
+    let (plain, waiting) = told?;
+    if waiting != told_to_wait(&plain, written) {
+        return Ok(Some(Difference::Waiting));
     }
-    Ok(())
+    Ok(what_differs(left, &plain))
+}
+
+/// Makes the runs and compares each with a plain telling of it. Answers what they left.
+pub fn compare_all(alloc: Global) -> anyhow::Result<Tally> {
+    let mut draw = Draw::new(SEED);
+    let mut tally = Tally::new();
+    for run in 0..RUNS {
+        if let Some(difference) = try_run(alloc, &mut draw, &mut tally)? {
+            bail!("run {run} isn't told alike: {difference:?}");
+        }
+    }
+    Ok(tally)
 }

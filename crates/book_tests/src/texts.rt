@@ -20,19 +20,19 @@ pub fn soh(alloc: Global, text: &str) -> Result<Vec<u8>, NoMemory> {
     Ok(bytes)
 }
 
-/// Whether the bytes are those of the text.
-pub fn is_text(bytes: &[u8], text: &str) -> bool {
-    let wanted = text.as_bytes();
-    if bytes.len() != wanted.len() {
-        return false;
-    }
-    for i in 0..bytes.len() {
-        let shown = if bytes[i] == 1 { b'|' } else { bytes[i] };
-        if shown != wanted[i] {
-            return false;
+/// The text of bytes, in which a `|`, a backslash and what isn't printable but SOH stand as `\xNN`.
+pub fn legible(alloc: Global, bytes: &[u8]) -> Result<String, NoMemory> {
+    let mut text = String::new(alloc);
+    for byte in bytes {
+        match *byte {
+            1 => text.push('|')?,
+            b'|' | b'\\' | ..b' ' | 127.. => {
+                text.push_str(format!(in alloc; "\\x{byte:02x}")?.as_str())?;
+            }
+            _ => text.push(char::from(*byte))?,
         }
     }
-    true
+    Ok(text)
 }
 
 /// The sum of all bytes, modulo 256.
