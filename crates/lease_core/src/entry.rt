@@ -1,3 +1,5 @@
+//! The entries of a session's journal, and the holdings between them.
+
 /// One event of a session, as it stands in the session's journal. A position counts the inbound
 /// messages from 0. A number counts what was sent in the present series from 1, and is the
 /// MsgSeqNum.

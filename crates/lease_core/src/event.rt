@@ -1,3 +1,5 @@
+//! What can happen to a session, before it has its place in the journal.
+
 /// What can happen to a session, before it has its place and its numbers in the journal.
 #[derive(Clone, Copy, Debug, PartialEq, Eq)]
 pub enum Event {

@@ -1,3 +1,5 @@
+//! The journal: its entries, and what they come to.
+
 ghost use Rattle.std.specs.Prelude.{◌≡◌, ◌≤◌, ◌<◌, ◌+◌, ◌^◌, ◌++◌, ◌∷◌, [], IfOk, OnOk, OnErr};
 ghost use Rattle.std.specs.Vec.{vec_len, vec_capacity};
 ghost use Rattle.lease_core.specs.State.{state_of, holdings_after, last_or, engine_from, lease_of, sent_in_series};
@@ -106,7 +108,7 @@ impl Journal {
         ensures spare { self.old.spare ≤ self.new.spare + 1 }
     {
         record_holding(&mut self.holdings, entry, self.totals.inbound);
-        self.totals = self.totals.after(entry);
+        self.totals.add(entry);
         self.entries.push(entry).unwrap();
     }
 }

@@ -1,3 +1,5 @@
+//! A lease, as a journal tells of it, and as the lease word shows it.
+
 /// How a lease ended, if it did.
 #[derive(Clone, Copy, Debug, PartialEq, Eq)]
 pub enum Ending {

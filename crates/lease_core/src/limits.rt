@@ -1,3 +1,5 @@
+//! The most libraries and leases.
+
 /// The most libraries. They are numbered from 1, and 0 is the engine.
 pub const MOST_LIBRARIES: u8 = 16;
 

@@ -1,3 +1,5 @@
+//! What a library asks, and what it is told.
+
 use crate::Why;
 use gate_io::Bytes;
 

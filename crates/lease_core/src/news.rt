@@ -1,3 +1,5 @@
+//! What each event adds to a journal.
+
 ghost use Rattle.std.specs.Prelude.{◌≡◌, ◌≤◌, ◌<◌, ◌+◌, ◌^◌, ◌⊎◌, false, if◌then◌else◌};
 ghost use Rattle.lease_core.specs.State.{state_of, last_lease};
 ghost use Rattle.lease_core.specs.Steps.{IsActive, IsLibrary};

@@ -1,3 +1,5 @@
+//! An entry with what a file of records needs beside it.
+
 use crate::Entry;
 use gate_io::Bytes;
 

@@ -1,3 +1,5 @@
+//! A journal as it is read back, record by record, and what closes it.
+
 ghost use Rattle.std.specs.Prelude.{◌≡◌, ◌≤◌, ◌<◌, ◌+◌, ◌++◌, ◌∷◌, [], ◌↔◌, IfOk, OnOk, IsTrue};
 ghost use Rattle.lease_core.specs.State.{state_of};
 ghost use Rattle.lease_core.specs.Runs.{IsNext, IsRun};

@@ -1,3 +1,5 @@
+//! The registry: one call for each event of a session.
+
 ghost use Rattle.std.specs.Prelude.{◌≡◌, ◌≢◌, ℕ, ◌≤◌, ◌<◌, ◌+◌, ◌-◌, ◌^◌, ◌++◌, ◌∷◌, [], ◌↔◌, ◌&&◌, IfOk, OnOk, IsSome, IsTrue, IsNone, None, Some, if◌then◌else◌, false};
 ghost use Rattle.lease_core.specs.State.{state_of, state_after, SentMore, owner_of, lease_of, series_of, sent_in_series, sent_in_all};
 ghost use Rattle.lease_core.specs.declared.event.Event.TheVariants.{Arrives, AdminSent, Binds, Plans, Leaves, Resets, Requests, Lapses};

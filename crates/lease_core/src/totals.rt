@@ -1,7 +1,10 @@
+//! What the entries so far come to, as far as the next one depends on it.
+
 ghost use Rattle.std.specs.Prelude.{◌≡◌, ◌+◌, ◌<◌, ◌^◌, None};
 ghost use Rattle.lease_core.specs.Totals.{numbers_after, totals_after};
 ghost use Rattle.lease_core.specs.State.{owner_in, heir_in, bound_after};
 ghost use Rattle.lease_core.specs.Lines.{word_by, line_of};
+ghost use Rattle.lease_core.specs.declared.lease.Ending.TheVariants.{Running};
 
 use crate::{Ending, Entry, Lease, Standing, Word};
 
@@ -59,115 +62,72 @@ impl Totals {
         }
     }
 
-    /// With one entry more.
-    pub fn after(self, entry: Entry) -> Totals
-        requires inbound { self.inbound + 1 < 2 ^ 64 }
-        requires sent { self.sent + 1 < 2 ^ 64 }
-        ensures { result ≡ totals_after self entry }
+    /// One entry more.
+    pub fn add(&mut self, entry: Entry)
+        requires inbound { self.old.inbound + 1 < 2 ^ 64 }
+        requires sent { self.old.sent + 1 < 2 ^ 64 }
+        ensures { self.new ≡ totals_after self.old entry }
     {
-        let bound = bound_after(self.bound, entry);
-        Totals {
-            bound,
-            latest: Some(entry),
-            ..self.numbers_after(entry)
-        }
+        self.add_numbers(entry);
+        self.bound = bound_after(self.bound, entry);
+        self.latest = Some(entry);
     }
 
-    fn numbers_after(self, entry: Entry) -> Totals
-        requires inbound { self.inbound + 1 < 2 ^ 64 }
-        requires sent { self.sent + 1 < 2 ^ 64 }
-        ensures { result ≡ numbers_after self entry }
+    fn add_numbers(&mut self, entry: Entry)
+        requires inbound { self.old.inbound + 1 < 2 ^ 64 }
+        requires sent { self.old.sent + 1 < 2 ^ 64 }
+        ensures { self.new ≡ numbers_after self.old entry }
     {
         match entry {
-            Entry::Arrive { .. } => Totals {
-                inbound: self.inbound + 1,
-                ..self
-            },
-            Entry::Admin { number } => self.with_number(number),
-            Entry::Reset { series } => Totals {
-                series,
-                sent_in_series: 0,
-                ..self
-            },
+            Entry::Arrive { .. } => self.inbound += 1,
+            Entry::Admin { number } => self.add_number(number),
+            Entry::Reset { series } => {
+                self.series = series;
+                self.sent_in_series = 0;
+            }
             Entry::Granted {
                 library,
                 lease,
                 from,
                 start,
                 ..
-            } => self.with_lease(
-                lease,
-                Lease {
-                    library,
-                    from,
-                    start,
-                    ..Lease::NONE
-                },
-            ),
+            } => self.begin_lease(lease, library, from, start),
             Entry::Send {
                 ordinal,
                 number,
                 ..
-            } => self.with_sends(ordinal).with_number(number),
-            Entry::Release { heir, .. } => self.with_ending(Ending::GivenBack { heir }),
-            Entry::Timeout { .. } => self.with_ending(Ending::TakenBack),
-            Entry::Hold { until, .. } => self.with_reserved(Some((self.heir(), until))),
-            Entry::Lapse { .. } => self.with_reserved(None),
+            } => {
+                self.lease.sends = ordinal;
+                self.add_number(number);
+            }
+            Entry::Release { heir, .. } => self.lease.ending = Ending::GivenBack { heir },
+            Entry::Timeout { .. } => self.lease.ending = Ending::TakenBack,
+            Entry::Hold { until, .. } => self.reserved = Some((self.heir(), until)),
+            Entry::Lapse { .. } => self.reserved = None,
             Entry::Bind { .. } | Entry::Plan { .. } | Entry::Leave { .. } | Entry::Refused { .. } =>
-                self,
+                {}
         }
     }
 
-    fn with_lease(self, leases: u32, lease: Lease) -> Totals
-        ensures { result ≡ record self { leases = leases; lease = lease; reserved = None } }
+    fn begin_lease(&mut self, nr: u32, library: u8, from: u64, start: u64)
+        ensures { self.new ≡ record self.old { leases = nr; lease = record { library = library; from = from; start = start; sends = 0; ending = Running }; reserved = None } }
     {
-        Totals {
-            leases,
-            lease,
-            reserved: None,
-            ..self
-        }
+        self.leases = nr;
+        self.lease = Lease {
+            library,
+            from,
+            start,
+            ..Lease::NONE
+        };
+        self.reserved = None;
     }
 
-    fn with_reserved(self, reserved: Option<(u8, u64)>) -> Totals
-        ensures { result ≡ record self { reserved = reserved } }
+    fn add_number(&mut self, number: u64)
+        requires { self.old.sent + 1 < 2 ^ 64 }
+        ensures { self.new ≡ record self.old { sent_in_series = number; sent = self.old.sent + 1 } }
     {
-        Totals { reserved, ..self }
-    }
-
-    fn with_number(self, number: u64) -> Totals
-        requires { self.sent + 1 < 2 ^ 64 }
-        ensures { result ≡ record self { sent_in_series = number; sent = self.sent + 1 } }
-    {
-        Totals {
-            sent_in_series: number,
-            sent: self.sent + 1,
-            ..self
-        }
-    }
-
-    fn with_sends(self, sends: u32) -> Totals
-        ensures { result ≡ record self { lease = record (self.lease) { sends = sends } } }
-    {
-        Totals {
-            lease: Lease {
-                sends,
-                ..self.lease
-            },
-            ..self
-        }
-    }
-
-    fn with_ending(self, ending: Ending) -> Totals
-        ensures { result ≡ record self { lease = record (self.lease) { ending = ending } } }
-    {
-        Totals {
-            lease: Lease {
-                ending,
-                ..self.lease
-            },
-            ..self
-        }
+        self.sent_in_series = number;
+        self.sent += 1;
     }
 }
 

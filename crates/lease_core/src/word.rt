@@ -1,3 +1,5 @@
+//! The lease word: how the last lease stands, in one number.
+
 ghost use Rattle.std.specs.Prelude.{◌≡◌, ◌<◌, ◌^◌, ◌*◌, ◌%◌, ◌/◌, ◌≢◌};
 ghost use Rattle.lease_core.specs.Word.{number_of, word_in, standing_in, flag_of, HasBothFlags};
 

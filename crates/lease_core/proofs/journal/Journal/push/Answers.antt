@@ -19,17 +19,17 @@ record_holding-requires-clause-inbound c =
     let few = few_arrived _ _ _ _ c.self.invariant in
     let room = ap (λ (k : Kept). k.spare) c.self.view_is in omega (arith, few, room)
 
-pub after-self-inside-requires-clause-inbound : goal.after-self-inside-requires-clause-inbound
-after-self-inside-requires-clause-inbound c =
+pub add-requires-clause-inbound : goal.add-requires-clause-inbound
+add-requires-clause-inbound c =
     let few = few_arrived _ _ _ _ c.self.invariant in
     let room = ap (λ (k : Kept). k.spare) c.self.view_is in omega (arith, few, room)
 
-pub after-self-inside-requires-clause-sent : goal.after-self-inside-requires-clause-sent
-after-self-inside-requires-clause-sent c =
+pub add-requires-clause-sent : goal.add-requires-clause-sent
+add-requires-clause-sent c =
     let few = few_sent _ _ _ _ c.self.invariant in
     let room = ap (λ (k : Kept). k.spare) c.self.view_is in omega (arith, few, room)
 
 pub invariant_of-self : goal.invariant_of-self
 invariant_of-self c =
     let next = subst (λ (k : Kept). IsNext k.leases (state_of k.entries) c.args.entry) (sym c.self.view_is) c.requires.next in
-    rw (c.push.ensures.items, c.unwrap.ensures, c.record_holding.ensures.items, c.after-self-inside.ensures) (kept_push _ _ _ _ c.args.entry c.self.invariant next)
+    rw (c.push.ensures.items, c.unwrap.ensures, c.record_holding.ensures.items, c.add.ensures) (kept_push _ _ _ _ c.args.entry c.self.invariant next)
