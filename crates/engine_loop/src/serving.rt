@@ -2,6 +2,7 @@
 
 ghost use Rattle.std.specs.Prelude.{◌≡◌, ◌≤◌, ◌+◌, ℕ, [], length, IfOk, OnOk, OnErr};
 ghost use Rattle.engine_loop.specs.Stops.{StopsServingAll};
+ghost use Rattle.library_desk.specs.Owners.{AreOwners};
 ghost use Rattle.library_desk.specs.Stops.{StopsServing};
 ghost use Rattle.engine_end.specs.Room.{HasRoomFor};
 ghost use Rattle.engine_loop.specs.Engines.{IsAtWork, IsOnline, until_of};
@@ -14,7 +15,7 @@ use crate::engine::Engine;
 use crate::laws::engines_stay;
 use gate_io::NoMemory;
 use library_desk::laws::serving_happens;
-use library_desk::{LibTurn, Shared};
+use library_desk::{LibTurn, Owners, Shared};
 use std::alloc::Global;
 use switchboard::laws::{boards_go_on, boards_stay_ready};
 use wire_desk::laws::lines_progress;
@@ -38,8 +39,9 @@ impl Engine {
     {
         let libraries = self.sessions.ends.len();
         let mut turns = Vec::with_capacity(alloc, libraries)?;
+        let mut owners = Owners::of(&self.sessions.desk.board);
         for i in 0..libraries {
-            let turn = self.serve_library(alloc, shared, i as u8 + 1)?;
+            let turn = self.serve_library(alloc, shared, &mut owners, i as u8 + 1)?;
             turns.push(turn)?;
         }
         Ok(turns)
@@ -50,13 +52,16 @@ impl Engine {
         &mut self,
         alloc: Global,
         shared: &Shared,
+        owners: &mut Owners,
         library: u8,
     ) -> Result<LibTurn, NoMemory>
         requires work { IsAtWork shared.now self.old }
         requires library { (1 ≤ library) × (library ≤ length self.old.sessions.ends.items) }
+        requires owners { AreOwners self.old.sessions.desk.board owners.old }
         requires room { HasRoomFor self.old.sessions.desk.board self.old.spare }
         ensures stops { OnErr result (StopsServing library self.old.moment (until_of self.old) self.old.sessions self.new.sessions) }
         ensures serves { IfOk result (λ turn. Serves library self.old.moment (until_of self.old) self.old.sessions self.new.sessions turn) }
+        ensures owners { OnOk result (AreOwners self.new.sessions.desk.board owners.new) }
         ensures rest { self.new ≡ record self.old { sessions = self.new.sessions } }
         ensures work { OnOk result (IsAtWork shared.now self.new) }
         ensures failed { self.new.failed ≡ self.old.failed }
@@ -73,7 +78,7 @@ impl Engine {
         let until = self.until();
         let turn = self
             .sessions
-            .serve(alloc, shared, library, self.moment, until)?;
+            .serve(alloc, shared, owners, library, self.moment, until)?;
         Ok(turn)
     }
 }

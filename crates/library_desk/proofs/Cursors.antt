@@ -16,7 +16,7 @@ use Rattle.session_book.specs.Kept.{Kept}
 use Rattle.switchboard.specs.Board.{Board, book_at, no_session, session_at, with_session}
 use Rattle.library_desk.specs.Serving.{AreCursors, IsCursorOf, cursor_at, no_cursor}
 
-same_or_other : (i j : ℕ) → (i ≡ j) ⊎ (i ≢ j)
+pub same_or_other : (i j : ℕ) → (i ≡ j) ⊎ (i ≢ j)
 same_or_other zero zero = inl refl
 same_or_other zero (suc j) = inr (λ e. absurd (omega arith))
 same_or_other (suc i) zero = inr (λ e. absurd (omega arith))

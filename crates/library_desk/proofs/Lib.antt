@@ -1,5 +1,6 @@
 pub mod Cursors
 pub mod Links
+pub mod Owned
 pub mod Pumped
 pub mod Running
 pub mod Stopped

@@ -1,3 +1,4 @@
 pub mod Happening
+pub mod Owners
 pub mod Serving
 pub mod Stops

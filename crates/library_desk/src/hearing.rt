@@ -3,9 +3,11 @@
 ghost use Rattle.std.specs.Prelude.{◌≡◌, ◌≤◌, ◌↔◌, ℕ, length, IsTrue, OnErr, OnOk};
 ghost use Rattle.lease_desk.specs.Desk.{InTurn, TakesBackFrom, TakesBackSome};
 ghost use Rattle.lease_words.specs.Views.{heard_of};
+ghost use Rattle.library_desk.specs.Owners.{AreOwners};
 ghost use Rattle.library_desk.specs.Serving.{Hears, IsLinked, IsInOrder, IsSilent};
 
 use crate::desk::LibraryDesk;
+use crate::owners::Owners;
 use crate::shared::Shared;
 use gate_io::{LAST_MOMENT, NoMemory};
 use lease_desk::laws::agreement_stays;
@@ -34,6 +36,7 @@ impl LibraryDesk {
         &mut self,
         alloc: Global,
         shared: &Shared,
+        owners: &mut Owners,
         library: u8,
         at: u64,
         until: u64,
@@ -44,12 +47,15 @@ impl LibraryDesk {
         requires ready { IsInOrder self.old }
         ensures taken_back { OnOk result (InTurn (TakesBackFrom library at until) (length self.old.desk.board.sessions) self.old.desk self.new.desk) }
         ensures stops { OnErr result (TakesBackSome library at until self.old.desk self.new.desk) }
+        ensures owners { OnOk result (AreOwners self.new.desk.board owners.new) }
         ensures rest { self.new ≡ record self.old { desk = self.new.desk } }
         ensures linked { IsLinked shared.now self.new }
         ensures ready { IsInOrder self.new }
         ensures none_comes { length self.new.desk.board.connections ≡ length self.old.desk.board.connections }
     {
         self.desk
-            .take_back_all(alloc, &shared.leases, library, at, until)
+            .take_back_all(alloc, &shared.leases, library, at, until)?;
+        *owners = Owners::of(&self.desk.board);
+        Ok(())
     }
 }

@@ -10,11 +10,13 @@ mod desk;
 mod ends;
 mod hearing;
 pub mod laws;
+mod owners;
 mod pumping;
 mod serving;
 mod shared;
 
 pub use desk::{LibraryDesk, Stray};
 pub use ends::EngineEnds;
+pub use owners::Owners;
 pub use serving::LibTurn;
 pub use shared::Shared;

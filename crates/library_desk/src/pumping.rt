@@ -2,9 +2,11 @@
 
 ghost use Rattle.std.specs.Prelude.{◌≡◌, ◌≤◌, ◌<◌, length, OnOk};
 ghost use Rattle.lease_desk.specs.Desk.{InTurn};
+ghost use Rattle.library_desk.specs.Owners.{AreOwners};
 ghost use Rattle.library_desk.specs.Serving.{IsLinked, IsInOrder, PumpsTo};
 
 use crate::desk::LibraryDesk;
+use crate::owners::Owners;
 use crate::shared::Shared;
 use catchup_pump::pump;
 use gate_io::NoMemory;
@@ -16,18 +18,20 @@ impl LibraryDesk {
         &mut self,
         alloc: Global,
         shared: &Shared,
+        owners: &Owners,
         library: u8,
     ) -> Result<(), NoMemory>
         requires linked { IsLinked shared.now self.old }
         requires library { (1 ≤ library) × (library ≤ length self.old.ends.items) }
         requires ready { IsInOrder self.old }
+        requires owners { AreOwners self.old.desk.board owners.now }
         ensures pumps { OnOk result (InTurn (PumpsTo library) (length self.old.desk.board.sessions) self.old self.new) }
         ensures desk { self.new.desk ≡ self.old.desk }
         ensures linked { IsLinked shared.now self.new }
         ensures ready { IsInOrder self.new }
     {
         for s in 0..self.desk.board.sessions() {
-            self.pump_to(alloc, shared, library, s)?;
+            self.pump_to(alloc, shared, owners, library, s)?;
         }
         Ok(())
     }
@@ -37,6 +41,7 @@ impl LibraryDesk {
         &mut self,
         alloc: Global,
         shared: &Shared,
+        owners: &Owners,
         library: u8,
         s: usize,
     ) -> Result<(), NoMemory>
@@ -44,16 +49,16 @@ impl LibraryDesk {
         requires library { (1 ≤ library) × (library ≤ length self.old.ends.items) }
         requires session { s < length self.old.desk.board.sessions }
         requires ready { IsInOrder self.old }
+        requires owners { AreOwners self.old.desk.board owners.now }
         ensures pumps { OnOk result (PumpsTo library s self.old self.new) }
         ensures desk { self.new.desk ≡ self.old.desk }
         ensures linked { IsLinked shared.now self.new }
         ensures ready { IsInOrder self.new }
     {
-        let session = self.desk.board.session(s);
-        let (owner, _) = session.owner();
-        if owner != library {
+        if owners.owner(s) != library {
             return Ok(());
         }
+        let session = self.desk.board.session(s);
         let place = usize::from(library - 1);
         pump(
             alloc,

@@ -1,12 +1,14 @@
 //! One library in a turn.
 
 ghost use Rattle.std.specs.Prelude.{◌≡◌, ◌≤◌, length, IfOk, OnOk, OnErr};
+ghost use Rattle.library_desk.specs.Owners.{AreOwners};
 ghost use Rattle.library_desk.specs.Stops.{StopsServing};
 ghost use Rattle.library_desk.specs.Serving.{Answers, HasRoomFor, IsLinked, IsInOrder, LooksAt, OnPopped, Serves, TellsTo};
 ghost use Rattle.switchboard.specs.Stops.{NothingIsTold};
 
 use crate::desk::LibraryDesk;
 use crate::ends::Next;
+use crate::owners::Owners;
 use crate::shared::Shared;
 use gate_io::{LAST_MOMENT, NoMemory};
 use lease_core::{Command, Notice};
@@ -29,11 +31,12 @@ impl LibraryDesk {
     /// Serves a library in a turn: its beat is heard; where it fell silent, its sessions are taken back;
     /// where its ring has room, one of its commands is popped and answered; and the sessions that it
     /// has are pumped. Behind the moment `until` a hold lapses. Without memory what was done stays, each
-    /// event whole.
+    /// event whole. Who has each session is handed on as it is then.
     pub fn serve(
         &mut self,
         alloc: Global,
         shared: &Shared,
+        owners: &mut Owners,
         library: u8,
         at: u64,
         until: u64,
@@ -42,26 +45,35 @@ impl LibraryDesk {
         requires library { (1 ≤ library) × (library ≤ length self.old.ends.items) }
         requires moment { at ≤ LAST_MOMENT }
         requires ready { IsInOrder self.old }
+        requires owners { AreOwners self.old.desk.board owners.old }
         ensures serves { IfOk result (λ turn. Serves library at until self.old self.new turn) }
         ensures stops { OnErr result (StopsServing library at until self.old self.new) }
+        ensures owners { OnOk result (AreOwners self.new.desk.board owners.new) }
         ensures linked { IsLinked shared.now self.new }
         ensures ready { IsInOrder self.new }
         ensures none_comes { length self.new.desk.board.connections ≡ length self.old.desk.board.connections }
     {
         if self.hear(shared, library, at) {
-            self.take_back_all(alloc, shared, library, at, until)?;
+            self.take_back_all(alloc, shared, owners, library, at, until)?;
         }
-        let turn = self.answer(shared, library)?;
-        self.pump_all(alloc, shared, library)?;
+        let turn = self.answer(shared, owners, library)?;
+        self.pump_all(alloc, shared, owners, library)?;
         Ok(turn)
     }
 
     // Pops a library's next command, where there is room for a notice, and answers it.
-    fn answer(&mut self, shared: &Shared, library: u8) -> Result<LibTurn, NoMemory>
+    fn answer(
+        &mut self,
+        shared: &Shared,
+        owners: &mut Owners,
+        library: u8,
+    ) -> Result<LibTurn, NoMemory>
         requires linked { IsLinked shared.now self.old }
         requires library { (1 ≤ library) × (library ≤ length self.old.ends.items) }
         requires ready { IsInOrder self.old }
+        requires owners { AreOwners self.old.desk.board owners.old }
         ensures answers { IfOk result (λ turn. Answers library self.old self.new turn) }
+        ensures owners { OnOk result (AreOwners self.new.desk.board owners.new) }
         ensures nothing { OnErr result (NothingIsTold self.old.desk.board self.new.desk.board) }
         ensures linked { IsLinked shared.now self.new }
         ensures ready { IsInOrder self.new }
@@ -73,6 +85,7 @@ impl LibraryDesk {
             Next::Popped(Command::Done { finished }) => Ok(LibTurn::Ended { finished }),
             Next::Popped(Command::Request { nr, s, from }) => {
                 let notice = self.reply(shared, library, nr, s, from)?;
+                *owners = Owners::of(&self.desk.board);
                 self.tell(shared, library, notice);
                 Ok(LibTurn::Answered { nr })
             }

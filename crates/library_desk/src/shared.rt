@@ -1,3 +1,5 @@
+//! What engine and libraries share: the lease table and both rings of each library.
+
 use lease_core::{Command, Notice};
 use lease_words::Leases;
 use ring_links::Ring;

@@ -1,3 +1,5 @@
+//! The session's book: its parts, and what of it can be looked at.
+
 ghost use Rattle.std.specs.Prelude.{◌≡◌, ◌≤◌, ◌+◌, [], ◌∷◌, IfOk, OnOk, length, None, Some};
 ghost use Rattle.seq_gaps.specs.Line.{fresh_line};
 ghost use Rattle.lease_core.specs.State.{state_of};

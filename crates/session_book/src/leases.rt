@@ -167,11 +167,14 @@ fn record_sends(
     ensures queued { out.new.outgoing ≡ with_items (items_behind bound (length bodies.old.items) log.old.series) out.old.outgoing }
     ensures taken { bodies.new.items ≡ [] }
 {
+    let sends = bodies.len();
+    if sends == 0 {
+        return;
+    }
     let series = log.series();
     let first = log.len_of(series).unwrap_or(0) + 1;
-    let sends = bodies.len();
     push_sends(alloc, log, bodies, at);
-    if bound.is_some() && sends > 0 {
+    if bound.is_some() {
         queue_sends(out, series, first, sends);
         machine.sent(at);
     }

@@ -41,6 +41,9 @@ impl SessionBook {
         ensures phase { self.new.book.machine.phase ≡ self.old.book.machine.phase }
     {
         entries_decide_one_by_one();
+        if acts.is_empty() {
+            return Ok(());
+        }
         for act in acts {
             self.carry(alloc, act, at, out)?;
         }

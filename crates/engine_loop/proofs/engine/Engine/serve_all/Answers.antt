@@ -16,6 +16,7 @@ loop-i-preserved c =
     record {
       turn = rw add-one (serving_of c.loop-i.self c.loop-i.turns.items, was.turn, record { turn = c.in_ok-turn.turn; serves = now.serves; told = told; rest = c.serve_library.ensures.rest });
       work = now.work;
+      owners = now.owners;
       online = λ door links at_first. now.online door links (was.online door links at_first);
       libraries = c.serve_library.ensures.libraries ∙ was.libraries;
       room = c.serve_library.ensures.room;
