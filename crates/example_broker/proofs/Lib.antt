@@ -1,5 +1,5 @@
 pub mod Answered
+pub mod Driven
 pub mod Ends
 pub mod Fills
 pub mod Moves
-pub mod Rounds

@@ -3,5 +3,9 @@ pub mod Reports
 pub mod Books
 pub mod Answers
 pub mod Trades
+pub mod Turns
+pub mod Leaves
+pub mod Runs
+pub mod Floors
 pub mod Traders
 pub mod Words

@@ -1,8 +1,8 @@
 -- The answers' texts.
-use Rattle.std.specs.Prelude.{ℕ, List, [], ◌∷◌, ◌++◌, codes, decimal}
+use Rattle.std.specs.Prelude.{ℕ, List, [], ◌∷◌, ◌++◌, codes, decimal, Option, Some, None}
 use Rattle.std.specs.List.{flat_map}
 use Rattle.fix_fields.specs.Field.{Field, field_text}
-use Rattle.example_broker.specs.Orders.{Ordered}
+use Rattle.example_broker.specs.Orders.{Cancelled, Misfitted, Ordered}
 use Rattle.example_broker.specs.declared.reports.Put.{Put}
 
 abbrev pub field : ℕ → List ℕ → Field
@@ -30,3 +30,24 @@ fill_fields name order =
 
 abbrev pub fill_text : ℕ → ℕ → Ordered → List ℕ
 fill_text s n order = fields_text (fill_fields (fill_name s n) order)
+
+-- The OrderCancelReject (35=9): OrderID (37), the request's ClOrdID (11) and OrigClOrdID (41), OrdStatus (39), OrderCancelRequest as CxlRejResponseTo (434), and CxlRejReason (102).
+abbrev pub reject_fields : List ℕ → Cancelled → List ℕ → List ℕ → List Field
+reject_fields name cancel status reason =
+    field 35 (codes "9") ∷ field 37 name ∷ field 11 cancel.id ∷ field 41 cancel.original ∷ field 39 status ∷ field 434 (codes "1") ∷ field 102 reason ∷ []
+
+-- where the order was filled, by the fill of this number, it is Filled and too late to cancel; another one is Rejected as unknown
+abbrev pub cancel_reject_fields : ℕ → Cancelled → Option ℕ → List Field
+cancel_reject_fields s cancel (Some number) = reject_fields (fill_name s number) cancel (codes "2") (codes "0")
+cancel_reject_fields s cancel None = reject_fields (codes "NONE") cancel (codes "8") (codes "1")
+
+abbrev pub cancel_reject_text : ℕ → Cancelled → Option ℕ → List ℕ
+cancel_reject_text s cancel fill = fields_text (cancel_reject_fields s cancel fill)
+
+-- The BusinessMessageReject (35=j): the message's MsgSeqNum as RefSeqNum (45) and its MsgType as RefMsgType (372), ConditionallyRequiredFieldMissing as BusinessRejectReason (380), and Text (58).
+abbrev pub misfit_fields : Misfitted → List Field
+misfit_fields misfit =
+    field 35 (codes "j") ∷ field 45 misfit.number ∷ field 372 misfit.kind ∷ field 380 (codes "5") ∷ field 58 (codes "a field is missing or too long") ∷ []
+
+abbrev pub misfit_text : Misfitted → List ℕ
+misfit_text misfit = fields_text (misfit_fields misfit)

@@ -1,9 +1,9 @@
 //! A message that a poll handed out is answered.
 
-ghost use Rattle.std.specs.Prelude.{◌≡◌, false, true, IfOk};
+ghost use Rattle.std.specs.Prelude.{◌≡◌, false, true, IfOk, OnErr};
 ghost use Rattle.library_api.specs.Ends.{belongings};
-ghost use Rattle.example_broker.specs.Answers.{AnswersMessage, AnswersOrder, AnswersUnread, SendsNone, SendsOnce, is_gone};
-ghost use Rattle.example_broker.specs.Orders.{ordered_by};
+ghost use Rattle.example_broker.specs.Answers.{AnswersAsking, AnswersMessage, AnswersNothing, AnswersOrder, SendsAnswer, SendsNone, SendsOnce, is_gone};
+ghost use Rattle.example_broker.specs.Orders.{asking_of, ordered_by};
 
 use crate::books::Book;
 use crate::calling::{Try, try_send};
@@ -44,6 +44,7 @@ pub(crate) fn answer_message<R: Wait + rt::Clock>(
 ) -> Result<Answer, NoMemory>
     requires table { library.old.ends.seat.table ≡ links.now.leases.now }
     ensures answers { IfOk result (λ answer. AnswersMessage s pos bytes.now answer book.old book.new library.old library.new) }
+    ensures short { OnErr result (AnswersNothing book.old book.new library.old library.new) }
     ensures belongings { belongings library.new.ends ≡ belongings library.old.ends }
 {
     // The other library has answered it.
@@ -77,7 +78,9 @@ fn answer_unread<R: Wait + rt::Clock>(
     book: &mut Book,
 ) -> Result<Answer, NoMemory>
     requires table { library.old.ends.seat.table ≡ links.now.leases.now }
-    ensures answers { IfOk result (λ answer. AnswersUnread s bytes.now answer book.old book.new library.old library.new) }
+    ensures answers { IfOk result (λ answer. AnswersAsking s (asking_of bytes.now) answer book.old book.new library.old library.new) }
+    ensures next { book.new.next ≡ book.old.next }
+    ensures short { OnErr result (AnswersNothing book.old book.new library.old library.new) }
     ensures belongings { belongings library.new.ends ≡ belongings library.old.ends }
 {
     let fields = match Fields::read(alloc, bytes) {
@@ -88,7 +91,7 @@ fn answer_unread<R: Wait + rt::Clock>(
     match asked_of(&fields) {
         Asked::Order(order) => fill(rt, alloc, library, links, floor, s, &order, book),
         Asked::Cancel(cancel) => {
-            let fill = book.fill_of(cancel.id);
+            let fill = book.fill_of(cancel.original);
             let text = cancel_reject_text(alloc, s, &cancel, fill)?;
             Ok(pass(rt, library, links, floor, s, text))
         }
@@ -113,6 +116,8 @@ fn fill<R: Wait + rt::Clock>(
 ) -> Result<Answer, NoMemory>
     requires table { library.old.ends.seat.table ≡ links.now.leases.now }
     ensures answers { IfOk result (λ answer. AnswersOrder s (ordered_by order.now) answer book.old book.new library.old library.new) }
+    ensures next { book.new.next ≡ book.old.next }
+    ensures short { OnErr result (AnswersNothing book.old book.new library.old library.new) }
     ensures belongings { belongings library.new.ends ≡ belongings library.old.ends }
 {
     if book.fill_of(order.id).is_some() {
@@ -141,6 +146,7 @@ fn pass<R: Wait + rt::Clock>(
     text: Vec<u8>,
 ) -> Answer
     requires table { library.old.ends.seat.table ≡ links.now.leases.now }
+    ensures sends { SendsAnswer s text.items result library.old library.new }
     ensures belongings { belongings library.new.ends ≡ belongings library.old.ends }
 {
     if send_until(rt, library, links, floor, s, text) {

@@ -1,10 +1,9 @@
 //! What the libraries know of a session's orders, whichever of them has the session.
 
-ghost use Rattle.std.specs.Prelude.{◌≡◌, ◌<◌, ℕ, IfOk, OnOk, OnErr, true, Vec};
+ghost use Rattle.std.specs.Prelude.{◌≡◌, ◌≢◌, ◌<◌, ℕ, OnOk, Some, Vec};
 ghost use Rattle.std.specs.Global.{Global as TheGlobal};
-ghost use Rattle.std.specs.HashMap.{spare};
-ghost use Rattle.std.specs.Option.{is_some};
-ghost use Rattle.example_broker.specs.Books.{Keeps, has_filled, next_fill};
+ghost use Rattle.std.specs.HashMap.{IsEmpty, spare};
+ghost use Rattle.example_broker.specs.Books.{Keeps, fill_of, next_fill};
 
 use gate_io::NoMemory;
 use std::alloc::Global;
@@ -22,7 +21,10 @@ pub struct Book {
 
 impl Book {
     /// No message came yet.
-    pub(crate) fn new(alloc: Global) -> Book {
+    pub(crate) fn new(alloc: Global) -> Book
+        ensures next { result.next ≡ 0 }
+        ensures filled { IsEmpty result.filled }
+    {
         Book {
             next: 0,
             filled: HashMap::new(alloc),
@@ -31,7 +33,7 @@ impl Book {
 
     /// The number of the fill of an order, if it was filled.
     pub(crate) fn fill_of(&self, id: &[u8]) -> Option<u64>
-        ensures { is_some result ≡ has_filled self.now id.now }
+        ensures { result ≡ fill_of self.now id.now }
     {
         self.filled.get(id).copied()
     }
@@ -53,11 +55,11 @@ impl Book {
         Ok(())
     }
 
-    /// An order was filled. There is room for it.
+    /// An order was filled, by the fill of this number. There is room for it.
     pub(crate) fn note(&mut self, id: Vec<u8>, number: u64)
         requires { 0 < spare self.old.filled }
-        ensures filled { has_filled self.new id.items ≡ true }
-        ensures others { (other : Vec ℕ TheGlobal) → has_filled self.old other.items ≡ true → has_filled self.new other.items ≡ true }
+        ensures filled { fill_of self.new id.items ≡ Some number }
+        ensures others { (other : Vec ℕ TheGlobal) → other.items ≢ id.items → fill_of self.new other.items ≡ fill_of self.old other.items }
         ensures next { self.new.next ≡ self.old.next }
     {
         match self.filled.insert(id, number) {

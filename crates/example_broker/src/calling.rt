@@ -1,10 +1,13 @@
 //! The calls of a library that this program makes, each with its answer and what the library knows behind it.
 
-ghost use Rattle.std.specs.Prelude.{◌≡◌};
+ghost use Rattle.std.specs.Prelude.{◌≡◌, ℕ, Result, false, true};
 ghost use Rattle.library_api.specs.Ends.{belongings};
+ghost use Rattle.library_api.specs.declared.refusal.AskError.{AskError as WhyNotAsked};
+ghost use Rattle.library_api.specs.declared.refusal.HandRefusal.{HandRefusal as WhyNotHanded};
+ghost use Rattle.library_api.specs.declared.refusal.Released.{Released as WasReleased};
 ghost use Rattle.library_calls.specs.Calls.{Hands, Polls, Releases, Requests};
 ghost use Rattle.example_broker.specs.Answers.{TriesOnce};
-ghost use Rattle.example_broker.specs.Trades.{MovesOn};
+ghost use Rattle.example_broker.specs.Trades.{FindsNoRoom, GivesBack, SaysDone};
 
 use library_api::{
     AskError, Event, HandRefusal, Library, Links, ReleaseRefusal, Released, SendRefusal,
@@ -45,7 +48,7 @@ pub(crate) fn try_send(library: &mut Library, links: &Links, s: u16, text: Vec<u
 /// Requests a session with its messages from a position on.
 pub(crate) fn request(library: &mut Library, links: &Links, s: u16, from: u64)
     requires tail { library.old.ends.tail.ring ≡ links.now.commands.now }
-    ensures moves { MovesOn library.old library.new }
+    ensures requests { (answer : Result ℕ WhyNotAsked) × Requests s from answer library.old library.new }
     ensures belongings { belongings library.new.ends ≡ belongings library.old.ends }
 {
     let _ = requested(library, links, s, from);
@@ -62,7 +65,7 @@ fn requested(library: &mut Library, links: &Links, s: u16, from: u64) -> Result<
 /// Hands a session to another library.
 pub(crate) fn hand(library: &mut Library, links: &Links, s: u16, heir: u8)
     requires table { library.old.ends.seat.table ≡ links.now.leases.now }
-    ensures moves { MovesOn library.old library.new }
+    ensures hands { (answer : Result WasReleased WhyNotHanded) × Hands s heir answer library.old library.new }
     ensures belongings { belongings library.new.ends ≡ belongings library.old.ends }
 {
     let _ = handed(library, links, s, heir);
@@ -82,7 +85,7 @@ fn handed(library: &mut Library, links: &Links, s: u16, heir: u8) -> Result<Rele
 /// Gives a session back.
 pub(crate) fn give_back(library: &mut Library, links: &Links, s: u16)
     requires table { library.old.ends.seat.table ≡ links.now.leases.now }
-    ensures moves { MovesOn library.old library.new }
+    ensures releases { GivesBack s library.old library.new }
     ensures belongings { belongings library.new.ends ≡ belongings library.old.ends }
 {
     let _ = released(library, links, s);
@@ -96,5 +99,18 @@ fn released(library: &mut Library, links: &Links, s: u16) -> Result<Released, Re
     match library.release(links, s) {
         Ok(released) => Ok(released),
         Err(why) => Err(why),
+    }
+}
+
+/// Says that nothing more comes, and whether all was done. Answers whether the ring of commands had room for that.
+pub(crate) fn say_done(library: &mut Library, links: &Links, finished: bool) -> bool
+    requires tail { library.old.ends.tail.ring ≡ links.now.commands.now }
+    ensures said { result ≡ true → SaysDone finished library.old library.new }
+    ensures unsaid { result ≡ false → FindsNoRoom finished library.old library.new }
+    ensures belongings { belongings library.new.ends ≡ belongings library.old.ends }
+{
+    match library.done(links, finished) {
+        Ok(()) => true,
+        Err(_full) => false,
     }
 }

@@ -1,7 +1,10 @@
 //! The engine's thread.
 
-ghost use Rattle.std.specs.Prelude.{◌≡◌, OnErr, OnOk, false, true};
+ghost use Rattle.std.specs.Prelude.{◌≡◌, IfOk, OnErr, OnOk, false};
 ghost use Rattle.engine_loop.specs.Engines.{IsEngine};
+ghost use Rattle.engine_loop.specs.Stops.{StopsTurn};
+ghost use Rattle.engine_loop.specs.Turns.{at_wire};
+ghost use Rattle.example_broker.specs.Turns.{Drives, DrivesShort, MakesAndWaits};
 
 use crate::floor::Floor;
 use crate::watching::Watch;
@@ -28,6 +31,8 @@ pub(crate) fn drive<R: Eprint, W: Dial, C: Clock>(
 ) -> Result<(), NoMemory>
     requires engine { IsEngine shared.now engine.old (W.door wire.old) (W.link wire.old) }
     requires stands { engine.old.failed ≡ false }
+    ensures drives { OnOk result (Drives (at_wire engine.old (W.door wire.old) (W.link wire.old)) (at_wire engine.new (W.door wire.new) (W.link wire.new))) }
+    ensures short { OnErr result (DrivesShort (at_wire engine.old (W.door wire.old) (W.link wire.old)) (at_wire engine.new (W.door wire.new) (W.link wire.new))) }
     ensures engine { IsEngine shared.now engine.new (W.door wire.new) (W.link wire.new) }
     ensures stands { OnOk result (engine.new.failed ≡ false) }
 {
@@ -59,6 +64,8 @@ fn drive_all<R: Eprint, W: Dial, C: Clock>(
 ) -> Result<(), NoMemory>
     requires engine { IsEngine shared.now engine.old (W.door wire.old) (W.link wire.old) }
     requires stands { engine.old.failed ≡ false }
+    ensures drives { OnOk result (Drives (at_wire engine.old (W.door wire.old) (W.link wire.old)) (at_wire engine.new (W.door wire.new) (W.link wire.new))) }
+    ensures short { OnErr result (DrivesShort (at_wire engine.old (W.door wire.old) (W.link wire.old)) (at_wire engine.new (W.door wire.new) (W.link wire.new))) }
     ensures engine { IsEngine shared.now engine.new (W.door wire.new) (W.link wire.new) }
     ensures stands { OnOk result (engine.new.failed ≡ false) }
 {
@@ -67,14 +74,20 @@ fn drive_all<R: Eprint, W: Dial, C: Clock>(
         let turn = turn(alloc, shared, engine, wire, clock)?;
         watch.look(rt, engine, floor)?;
         working = working.saturating_sub(ended_in(turn.libs.as_slice()));
-        if watch.connections() == (connections, false) {
-            floor.close();
-            if working == 0 {
-                return Ok(());
-            }
+        if is_over(watch, floor, connections, working) {
+            return Ok(());
         }
     }
     Ok(())
+}
+
+/// Tells the libraries, once so many connections came and have ended. Answers whether each library is done then.
+fn is_over(watch: &Watch, floor: &Floor, connections: usize, working: usize) -> bool {
+    if watch.connections() != (connections, false) {
+        return false;
+    }
+    floor.close();
+    working == 0
 }
 
 /// Makes one turn, behind which the wire may wait.
@@ -87,6 +100,8 @@ fn turn<W: Dial, C: Clock>(
 ) -> Result<Turn, NoMemory>
     requires engine { IsEngine shared.now engine.old (W.door wire.old) (W.link wire.old) }
     requires stands { engine.old.failed ≡ false }
+    ensures makes { IfOk result (λ turn. MakesAndWaits (C.last clock.new) turn (at_wire engine.old (W.door wire.old) (W.link wire.old)) (at_wire engine.new (W.door wire.new) (W.link wire.new))) }
+    ensures stops { OnErr result (StopsTurn (C.last clock.new) (at_wire engine.old (W.door wire.old) (W.link wire.old)) engine.new) }
     ensures engine { IsEngine shared.now engine.new (W.door wire.new) (W.link wire.new) }
     ensures stands { OnOk result (engine.new.failed ≡ false) }
 {

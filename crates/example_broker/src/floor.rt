@@ -1,5 +1,8 @@
 //! What the engine's thread and the libraries' threads tell each other.
 
+ghost use Rattle.std.specs.Prelude.{◌≡◌, ◌≤◌, IfOk, length, min};
+ghost use Rattle.example_broker.specs.Floors.{place_at};
+
 use crate::books::Book;
 use gate_io::NoMemory;
 use std::alloc::Global;
@@ -63,7 +66,10 @@ impl Place {
     }
 
     /// The number of the library that is to have session `s`: at first they take turns.
-    pub(crate) fn keeper(&self, s: u16) -> u8 {
+    pub(crate) fn keeper(&self, s: u16) -> u8
+        ensures first { 1 ≤ result }
+        ensures last { result ≤ LIBRARIES }
+    {
         let turn = (u64::from(s) % 2 + self.asked.load(Ordering::SeqCst) % 2) % 2;
         if turn == 0 { 1 } else { 2 }
     }
@@ -125,9 +131,11 @@ pub struct Floor {
 
 impl Floor {
     /// A floor of so many sessions.
-    pub(crate) fn new(alloc: Global, sessions: usize) -> Result<Floor, NoMemory> {
+    pub(crate) fn new(alloc: Global, sessions: usize) -> Result<Floor, NoMemory>
+        ensures { IfOk result (λ floor. length floor.places.items ≡ sessions) }
+    {
         let mut places = Vec::with_capacity(alloc, sessions)?;
-        for _ in 0..sessions {
+        for _s in 0..sessions {
             places.push(Place::new(alloc))?;
         }
         Ok(Floor {
@@ -139,12 +147,16 @@ impl Floor {
     }
 
     /// How many sessions there are.
-    pub(crate) fn sessions(&self) -> u16 {
+    pub(crate) fn sessions(&self) -> u16
+        ensures { result ≡ min (length self.now.places.items) 65535 }
+    {
         self.places.len().min(usize::from(u16::MAX)) as u16
     }
 
     /// The place of a session.
-    pub(crate) fn place(&self, s: u16) -> &Place {
+    pub(crate) fn place(&self, s: u16) -> &Place
+        ensures { result.now ≡ place_at self.now s }
+    {
         match self.places.get(usize::from(s)) {
             Some(place) => place,
             None => &self.nowhere,

@@ -1,12 +1,12 @@
 //! What a run leaves.
 
-ghost use Rattle.std.specs.Prelude.{ℕ, ◌≡◌, IfOk};
+ghost use Rattle.std.specs.Prelude.{ℕ, ◌≡◌, [], ◌∷◌, IfOk};
 ghost use Rattle.std.specs.List.{All};
 ghost use Rattle.engine_end.specs.Records.{HasLawfulJournal};
 ghost use Rattle.engine_loop.specs.Engines.{IsEngine};
 ghost use Rattle.gate_io.specs.Wire.{Door, Link};
-ghost use Rattle.lease_words.specs.Views.{LibraryView};
-ghost use Rattle.example_broker.specs.Traders.{AreTraders, IsTrader};
+ghost use Rattle.example_broker.specs.Leaves.{Leaves, report_of};
+ghost use Rattle.example_broker.specs.Traders.{AreTraders};
 
 use crate::starting::Traders;
 use crate::trading::Trader;
@@ -26,13 +26,14 @@ pub(crate) fn leave(
 ) -> Result<RunRecord, NoMemory>
     requires engine { (door : Door) × (links : ℕ → Link) × IsEngine shared.now engine door links }
     requires traders { AreTraders shared.now traders }
+    ensures leaves { IfOk result (Leaves engine traders) }
     ensures journals { IfOk result (λ left. All HasLawfulJournal left.engine.sessions) }
 {
     let Traders { first, second } = traders;
-    let (first_seat, first) = parts(alloc, shared, first);
-    let (second_seat, second) = parts(alloc, shared, second);
+    let (first_seat, first) = parts(alloc, first);
+    let (second_seat, second) = parts(alloc, second);
     let libraries = Rows::of(Vec::from_array(alloc, [first, second])?);
-    let seats = seats(alloc, shared, first_seat, second_seat)?;
+    let seats = seats(alloc, first_seat, second_seat)?;
     match engine.finish(alloc, shared, seats) {
         Ok(engine) => Ok(RunRecord { engine, libraries }),
         Err((why, _left)) => Err(why),
@@ -42,21 +43,18 @@ pub(crate) fn leave(
 /// Both libraries' seats.
 fn seats(
     alloc: Global,
-    _shared: &Shared,
     first: LibrarySeat,
     second: LibrarySeat,
 ) -> Result<Vec<LibrarySeat>, NoMemory>
-    requires first { first.table ≡ _shared.now.leases }
-    requires second { second.table ≡ _shared.now.leases }
-    ensures { IfOk result (λ seats. All (λ (seat : LibraryView). seat.table ≡ _shared.now.leases) seats.items) }
+    ensures { IfOk result (λ seats. seats.items ≡ first ∷ second ∷ []) }
 {
     Ok(Vec::from_array(alloc, [first, second])?)
 }
 
 /// A library's seat, and its report: how many messages it read. Its calls aren't kept.
-fn parts(alloc: Global, _shared: &Shared, trader: Trader) -> (LibrarySeat, LibReport)
-    requires { IsTrader _shared.now trader }
-    ensures { result.0.table ≡ _shared.now.leases }
+fn parts(alloc: Global, trader: Trader) -> (LibrarySeat, LibReport)
+    ensures seat { result.0 ≡ trader.library.ends.seat }
+    ensures report { result.1 ≡ report_of trader }
 {
     let Trader {
         number,

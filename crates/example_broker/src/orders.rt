@@ -1,8 +1,8 @@
 //! What a counterparty's message asks for.
 
-ghost use Rattle.std.specs.Prelude.{◌≡◌, Some, None, IfSome, option_copied, codes};
+ghost use Rattle.std.specs.Prelude.{◌≡◌, Some, option_copied};
 ghost use Rattle.std.specs.Option.{option_map};
-ghost use Rattle.example_broker.specs.Orders.{has_kind, order_fields, order_in, ordered_by, ordered_in, price_in, short_value, value_in};
+ghost use Rattle.example_broker.specs.Orders.{asking_by, asking_in, cancel_fields, cancelled_by, has_kind, misfit_in, order_fields, ordered_by, price_in, short_value, value_in};
 
 use fix_fields::Fields;
 
@@ -43,9 +43,9 @@ pub struct Order<'a> {
 /// An OrderCancelRequest (35=F).
 #[derive(Clone, Copy)]
 pub struct Cancel<'a> {
-    /// ClOrdID (11).
+    /// ClOrdID (11): its own.
     pub id: &'a [u8],
-    /// OrigClOrdID (41).
+    /// OrigClOrdID (41): that of the order which is to be cancelled.
     pub original: &'a [u8],
 }
 
@@ -61,7 +61,7 @@ pub struct Misfit<'a> {
 /// What a message with these fields asks for. Whether it is sent again (PossDupFlag, 43) doesn't matter: an order
 /// that was lost and comes again wasn't filled, and one that was filled is known by its ClOrdID (11).
 pub(crate) fn asked_of<'a>(fields: &Fields<'a>) -> Asked<'a>
-    ensures { ordered_in result ≡ order_in fields.now }
+    ensures { asking_by result ≡ asking_in fields.now }
 {
     if has_kind(fields, b"D") {
         return match order_of(fields) {
@@ -100,15 +100,18 @@ fn order_of<'a>(fields: &Fields<'a>) -> Option<Order<'a>>
     })
 }
 
-fn cancel_of<'a>(fields: &Fields<'a>) -> Option<Cancel<'a>> {
+fn cancel_of<'a>(fields: &Fields<'a>) -> Option<Cancel<'a>>
+    ensures { option_map cancelled_by result ≡ cancel_fields fields.now }
+{
     Some(Cancel {
         id: value_of(fields, 11)?,
         original: value_of(fields, 41)?,
     })
 }
 
+/// What a message of this kind asks for that lacks a field.
 fn misfit_of<'a>(fields: &Fields<'a>, kind: &'a [u8]) -> Asked<'a>
-    ensures { ordered_in result ≡ None }
+    ensures { asking_by result ≡ misfit_in kind.now fields.now }
 {
     match value_of(fields, 34) {
         Some(number) => Asked::Misfit(Misfit { kind, number }),

@@ -1,8 +1,8 @@
 //! The texts of the answers.
 
 ghost use Rattle.std.specs.Prelude.{◌≡◌, IfOk, map};
-ghost use Rattle.example_broker.specs.Orders.{ordered_by};
-ghost use Rattle.example_broker.specs.Reports.{fields_text, fill_fields, fill_name, fill_text, put_field};
+ghost use Rattle.example_broker.specs.Orders.{cancelled_by, misfitted_by, ordered_by};
+ghost use Rattle.example_broker.specs.Reports.{cancel_reject_text, fields_text, fill_fields, fill_name, fill_text, misfit_text, put_field, reject_fields};
 
 use crate::orders::{Cancel, Misfit, Order};
 use fix_fields::put_field;
@@ -91,7 +91,9 @@ pub(crate) fn cancel_reject_text(
     s: u16,
     cancel: &Cancel<'_>,
     fill: Option<u64>,
-) -> Result<Vec<u8>, NoMemory> {
+) -> Result<Vec<u8>, NoMemory>
+    ensures { IfOk result (λ text. text.items ≡ cancel_reject_text s (cancelled_by cancel.now) fill) }
+{
     match fill {
         Some(number) => {
             let name = fill_name(alloc, s, number)?;
@@ -101,13 +103,16 @@ pub(crate) fn cancel_reject_text(
     }
 }
 
+/// The same, with its OrderID (37), OrdStatus (39) and CxlRejReason (102).
 fn reject_text<'a>(
     alloc: Global,
     cancel: &'a Cancel<'a>,
     name: &'a [u8],
     status: &'a [u8],
     reason: &'a [u8],
-) -> Result<Vec<u8>, NoMemory> {
+) -> Result<Vec<u8>, NoMemory>
+    ensures { IfOk result (λ text. text.items ≡ fields_text (reject_fields name.now (cancelled_by cancel.now) status.now reason.now)) }
+{
     text_of(
         alloc,
         &[
@@ -123,7 +128,9 @@ fn reject_text<'a>(
 }
 
 /// The BusinessMessageReject (35=j) of a message that lacks a field (380=5).
-pub(crate) fn misfit_text<'a>(alloc: Global, misfit: &'a Misfit<'a>) -> Result<Vec<u8>, NoMemory> {
+pub(crate) fn misfit_text<'a>(alloc: Global, misfit: &'a Misfit<'a>) -> Result<Vec<u8>, NoMemory>
+    ensures { IfOk result (λ text. text.items ≡ misfit_text (misfitted_by misfit.now)) }
+{
     text_of(
         alloc,
         &[

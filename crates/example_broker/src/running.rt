@@ -1,12 +1,15 @@
 //! A run of the broker: the engine in one thread, each library in one of its own, and what they leave.
 
-ghost use Rattle.std.specs.Prelude.{◌≡◌, IfOk, OnOk, false};
+ghost use Rattle.std.specs.Prelude.{◌≡◌, IfOk, OnErr, OnOk, false};
+ghost use Rattle.std.specs.List.{All};
 ghost use Rattle.std.specs.Thread.{IsSync};
 ghost use Rattle.engine_config.specs.Config.{IsConfig};
+ghost use Rattle.engine_end.specs.Records.{HasLawfulJournal};
 ghost use Rattle.engine_loop.specs.Engines.{IsEngine};
-ghost use Rattle.gate_io.specs.Wire.{Door, Link};
-ghost use Rattle.std.specs.Prelude.{ℕ};
-ghost use Rattle.example_broker.specs.Traders.{AreTraders, IsTrader};
+ghost use Rattle.engine_loop.specs.Turns.{at_wire};
+ghost use Rattle.example_broker.specs.Runs.{Runs};
+ghost use Rattle.example_broker.specs.Traders.{AreTraders, HasTraded, HaveTraded, IsTrader};
+ghost use Rattle.example_broker.specs.Turns.{Drives, DrivesShort};
 
 use crate::counterparty::SpokenWire;
 use crate::driving::drive;
@@ -54,6 +57,8 @@ pub(crate) fn serve<R: Threads + Wait + Eprint + rt::Clock + Sync, W: Dial + Sen
     requires config { IsConfig config }
     requires accepted { (W.door wire.old).accepted ≡ 0 }
     requires dialled { (W.door wire.old).dialled ≡ 0 }
+    ensures runs { IfOk result (Runs config) }
+    ensures journals { IfOk result (λ left. All HasLawfulJournal left.engine.sessions) }
 {
     match wire.listen(address) {
         Listened::Ready => {}
@@ -73,6 +78,8 @@ pub(crate) fn show<R: Threads + Wait + Eprint + rt::Clock + Sync, D: rt::Clock +
     config: Config,
 ) -> Result<(RunRecord, u64), NoMemory>
     requires { IsConfig config }
+    ensures runs { IfOk result (λ left. Runs config left.0) }
+    ensures journals { IfOk result (λ left. All HasLawfulJournal left.0.engine.sessions) }
 {
     let floor = Floor::new(alloc, config.names.as_slice().len())?;
     let mut wire = SpokenWire::new(alloc, sleeper, &floor)?;
@@ -93,6 +100,8 @@ fn run<R: Threads + Wait + Eprint + rt::Clock + Sync, W: Dial + Send, C: Clock +
     requires config { IsConfig config }
     requires accepted { (W.door wire.old).accepted ≡ 0 }
     requires dialled { (W.door wire.old).dialled ≡ 0 }
+    ensures runs { IfOk result (Runs config) }
+    ensures journals { IfOk result (λ left. All HasLawfulJournal left.engine.sessions) }
 {
     let connections = config.connections as usize;
     let sessions = config.names.as_slice().len();
@@ -132,14 +141,17 @@ fn run_all<R: Threads + Wait + Eprint + rt::Clock + Sync, W: Dial + Send, C: Clo
     requires engine { IsEngine shared.now engine.old (W.door wire.old) (W.link wire.old) }
     requires stands { engine.old.failed ≡ false }
     requires traders { AreTraders shared.now traders.old }
+    ensures drives { OnOk result (Drives (at_wire engine.old (W.door wire.old) (W.link wire.old)) (at_wire engine.new (W.door wire.new) (W.link wire.new))) }
+    ensures short { OnErr result (DrivesShort (at_wire engine.old (W.door wire.old) (W.link wire.old)) (at_wire engine.new (W.door wire.new) (W.link wire.new))) }
     ensures engine { IsEngine shared.now engine.new (W.door wire.new) (W.link wire.new) }
     ensures traders { AreTraders shared.now traders.new }
+    ensures trade { HaveTraded traders.old traders.new }
 {
     let (outcome, ()) = join_mut(
         rt,
         &mut || -> Result<(), NoMemory>
             requires { IsEngine shared.now engine.now (W.door wire.now) (W.link wire.now) × (engine.now.failed ≡ false) }
-            ensures { IsEngine shared.entry.now engine.exit.now (W.door wire.exit.now) (W.link wire.exit.now) }
+            ensures { IsEngine shared.entry.now engine.exit.now (W.door wire.exit.now) (W.link wire.exit.now) × OnOk result (Drives (at_wire engine.entry.now (W.door wire.entry.now) (W.link wire.entry.now)) (at_wire engine.exit.now (W.door wire.exit.now) (W.link wire.exit.now))) × OnErr result (DrivesShort (at_wire engine.entry.now (W.door wire.entry.now) (W.link wire.entry.now)) (at_wire engine.exit.now (W.door wire.exit.now) (W.link wire.exit.now))) }
         {
             drive(
                 rt,
@@ -155,7 +167,7 @@ fn run_all<R: Threads + Wait + Eprint + rt::Clock + Sync, W: Dial + Send, C: Clo
         },
         &mut ||
             requires { IsSync R.row × AreTraders shared.now traders.now }
-            ensures { AreTraders shared.entry.now traders.exit.now }
+            ensures { AreTraders shared.entry.now traders.exit.now × HaveTraded traders.entry.now traders.exit.now }
         { trade_both(rt, alloc, shared, floor, traders) },
     );
     outcome
@@ -171,6 +183,7 @@ fn trade_both<R: Threads + Wait + rt::Clock + Sync>(
 )
     requires traders { AreTraders shared.now traders.old }
     ensures traders { AreTraders shared.now traders.new }
+    ensures trade { HaveTraded traders.old traders.new }
 {
     let first = &mut traders.first;
     let second = &mut traders.second;
@@ -190,16 +203,18 @@ fn trade_beside<R: Threads + Wait + rt::Clock + Sync>(
     requires second { IsTrader shared.now second.old }
     ensures first { IsTrader shared.now first.new }
     ensures second { IsTrader shared.now second.new }
+    ensures first_trades { HasTraded first.old first.new }
+    ensures second_trades { HasTraded second.old second.new }
 {
     let ((), ()) = join_mut(
         rt,
         &mut ||
             requires { IsTrader shared.now first.now }
-            ensures { IsTrader shared.entry.now first.exit.now }
+            ensures { IsTrader shared.entry.now first.exit.now × HasTraded first.entry.now first.exit.now }
         { first.trade(rt, alloc, shared, floor) },
         &mut ||
             requires { IsTrader shared.now second.now }
-            ensures { IsTrader shared.entry.now second.exit.now }
+            ensures { IsTrader shared.entry.now second.exit.now × HasTraded second.entry.now second.exit.now }
         { second.trade(rt, alloc, shared, floor) },
     );
 }

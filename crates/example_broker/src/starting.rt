@@ -3,7 +3,7 @@
 ghost use Rattle.std.specs.Prelude.{◌≡◌, ℕ, IfOk, Some, slice_get};
 ghost use Rattle.engine_start.specs.Starts.{AreLibraryEnds};
 ghost use Rattle.engine_start.specs.declared.ends.LibraryEnds.{LibraryEnds as TheEnds};
-ghost use Rattle.example_broker.specs.Traders.{AreTraders, IsTrader};
+ghost use Rattle.example_broker.specs.Traders.{AreNewTraders, AreTraders, IsNewTrader, IsTrader};
 
 use crate::trading::{Desk, Trader};
 use engine_start::LibraryEnds;
@@ -28,7 +28,8 @@ pub(crate) fn make_traders(
     sessions: usize,
 ) -> Result<Traders, NoMemory>
     requires each { (j : ℕ) (e : TheEnds) → slice_get ends.items j ≡ Some e → AreLibraryEnds shared.now j e }
-    ensures { IfOk result (AreTraders shared.now) }
+    ensures traders { IfOk result (AreTraders shared.now) }
+    ensures new { IfOk result (AreNewTraders shared.now asks sessions) }
 {
     let mut ends = ends.into_iter();
     let first = ends.next().ok_or(NoMemory::OutOfMemory)?;
@@ -49,7 +50,8 @@ fn trader(
     sessions: usize,
 ) -> Result<Trader, NoMemory>
     requires { AreLibraryEnds _shared.now _place ends }
-    ensures { IfOk result (IsTrader _shared.now) }
+    ensures trader { IfOk result (IsTrader _shared.now) }
+    ensures new { IfOk result (IsNewTrader _shared.now _place asks sessions) }
 {
     let number = ends.number;
     let leases = vec![in alloc; 0u32; sessions]?;

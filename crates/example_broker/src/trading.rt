@@ -1,12 +1,12 @@
 //! A trading library: its thread's loop.
 
-ghost use Rattle.std.specs.Prelude.{◌≡◌, OnOk, false};
+ghost use Rattle.std.specs.Prelude.{◌≡◌, ◌⊎◌, ℕ, IfOk, OnErr, OnOk, slice_index_or, slice_set};
 ghost use Rattle.library_api.specs.Ends.{belongings};
-ghost use Rattle.example_broker.specs.Traders.{IsTrader};
-ghost use Rattle.example_broker.specs.Trades.{AnswersOver, FollowsOn, MovesOn, Round, Trades};
+ghost use Rattle.example_broker.specs.Traders.{HasTraded, IsTrader};
+ghost use Rattle.example_broker.specs.Trades.{AnswersOver, BeginsRound, FollowsOn, GivesAllBack, GivesBack, HandsOver, Looks, LooksAt, PartsBehind, PartsWith, Round, TellsDone, Trades, TradesShort};
 
 use crate::answering::{Answer, answer_message};
-use crate::calling::{give_back, hand, poll, request};
+use crate::calling::{give_back, hand, poll, request, say_done};
 use crate::floor::Floor;
 use crate::resting::{NAP, WAKEFUL, rest};
 use gate_io::NoMemory;
@@ -58,6 +58,7 @@ impl Trader {
         floor: &Floor,
     )
         requires trader { IsTrader shared.now self.old }
+        ensures trades { HasTraded self.old self.new }
         ensures trader { IsTrader shared.now self.new }
     {
         let place = usize::from(self.number - 1);
@@ -85,7 +86,9 @@ pub(crate) fn trade_all<R: Wait + rt::Clock>(
     requires table { library.old.ends.seat.table ≡ links.now.leases.now }
     requires tail { library.old.ends.tail.ring ≡ links.now.commands.now }
     requires head { library.old.ends.head.ring ≡ links.now.notices.now }
-    ensures trades { OnOk result (Trades library.old library.new) }
+    ensures trades { OnOk result (Trades desk.old.number library.old library.new) }
+    ensures short { OnErr result (TradesShort desk.old.number library.old library.new) }
+    ensures number { desk.new.number ≡ desk.old.number }
     ensures belongings { belongings library.new.ends ≡ belongings library.old.ends }
 {
     'trading: for _round in rt.forever() {
@@ -114,15 +117,15 @@ fn round<R: Wait + rt::Clock>(
     requires table { library.old.ends.seat.table ≡ links.now.leases.now }
     requires tail { library.old.ends.tail.ring ≡ links.now.commands.now }
     requires head { library.old.ends.head.ring ≡ links.now.notices.now }
-    ensures round { OnOk result (Round library.old library.new) }
+    ensures round { OnOk result (Round desk.old.number library.old library.new) }
+    ensures short { OnErr result (BeginsRound desk.old.number library.old library.new) }
+    ensures number { desk.new.number ≡ desk.old.number }
     ensures belongings { belongings library.new.ends ≡ belongings library.old.ends }
 {
     look_if_due(rt, library, links, floor, desk);
     let event = poll(library, links);
     let answered = follow(rt, alloc, library, links, floor, desk, &event)?;
-    if let Some((s, answer)) = answered {
-        part_if_due(library, links, floor, desk, s, answer);
-    }
+    part(library, links, floor, desk, answered);
     if library.waited().count() > 0 {
         // The sessions are looked at next.
         desk.rounds = 0;
@@ -142,7 +145,9 @@ fn follow<R: Wait + rt::Clock>(
     event: &Event,
 ) -> Result<Option<(u16, Answer)>, NoMemory>
     requires table { library.old.ends.seat.table ≡ links.now.leases.now }
-    ensures follows { OnOk result (FollowsOn event.now library.old library.new) }
+    ensures follows { IfOk result (λ answered. FollowsOn event.now answered library.old library.new) }
+    ensures short { OnErr result (library.new ≡ library.old) }
+    ensures number { desk.new.number ≡ desk.old.number }
     ensures belongings { belongings library.new.ends ≡ belongings library.old.ends }
 {
     match event {
@@ -177,7 +182,8 @@ fn answer<R: Wait + rt::Clock>(
     bytes: &[u8],
 ) -> Result<Answer, NoMemory>
     requires table { library.old.ends.seat.table ≡ links.now.leases.now }
-    ensures answers { OnOk result (AnswersOver s pos bytes.now library.old library.new) }
+    ensures answers { IfOk result (λ answer. AnswersOver s pos bytes.now answer library.old library.new) }
+    ensures short { OnErr result (library.new ≡ library.old) }
     ensures belongings { belongings library.new.ends ≡ belongings library.old.ends }
 {
     let place = floor.place(s);
@@ -190,6 +196,24 @@ fn answer<R: Wait + rt::Clock>(
     Ok(answer)
 }
 
+/// Behind an event: parts with the session of its message, where that is due.
+fn part(
+    library: &mut Library,
+    links: &Links,
+    floor: &Floor,
+    desk: &mut Desk,
+    answered: Option<(u16, Answer)>,
+)
+    requires table { library.old.ends.seat.table ≡ links.now.leases.now }
+    ensures parts { PartsWith desk.old.number answered library.old library.new }
+    ensures number { desk.new.number ≡ desk.old.number }
+    ensures belongings { belongings library.new.ends ≡ belongings library.old.ends }
+{
+    if let Some((s, answer)) = answered {
+        part_if_due(library, links, floor, desk, s, answer);
+    }
+}
+
 /// Behind a message: parts with its session, where that is to go, or where it couldn't be answered.
 fn part_if_due(
     library: &mut Library,
@@ -200,7 +224,8 @@ fn part_if_due(
     answer: Answer,
 )
     requires table { library.old.ends.seat.table ≡ links.now.leases.now }
-    ensures moves { MovesOn library.old library.new }
+    ensures parts { PartsBehind desk.old.number s answer library.old library.new }
+    ensures number { desk.new.number ≡ desk.old.number }
     ensures belongings { belongings library.new.ends ≡ belongings library.old.ends }
 {
     if let Answer::Gone = answer {
@@ -222,7 +247,8 @@ fn look_if_due<R: Wait>(
 )
     requires table { library.old.ends.seat.table ≡ links.now.leases.now }
     requires tail { library.old.ends.tail.ring ≡ links.now.commands.now }
-    ensures moves { MovesOn library.old library.new }
+    ensures looks { Looks desk.old.number library.old library.new }
+    ensures number { desk.new.number ≡ desk.old.number }
     ensures belongings { belongings library.new.ends ≡ belongings library.old.ends }
 {
     if desk.rounds > 0 {
@@ -246,7 +272,8 @@ fn look_at<R: Wait>(
 )
     requires table { library.old.ends.seat.table ≡ links.now.leases.now }
     requires tail { library.old.ends.tail.ring ≡ links.now.commands.now }
-    ensures moves { MovesOn library.old library.new }
+    ensures looks { LooksAt desk.old.number s library.old library.new }
+    ensures number { desk.new.number ≡ desk.old.number }
     ensures belongings { belongings library.new.ends ≡ belongings library.old.ends }
 {
     let place = floor.place(s);
@@ -265,7 +292,8 @@ fn look_at<R: Wait>(
 /// Hands a session to the library that is to have it, and tells that it was let go.
 fn hand_over(library: &mut Library, links: &Links, floor: &Floor, desk: &mut Desk, s: u16)
     requires table { library.old.ends.seat.table ≡ links.now.leases.now }
-    ensures moves { MovesOn library.old library.new }
+    ensures hands { (library.new ≡ library.old) ⊎ HandsOver desk.old.number s library.old library.new }
+    ensures number { desk.new.number ≡ desk.old.number }
     ensures belongings { belongings library.new.ends ≡ belongings library.old.ends }
 {
     let place = floor.place(s);
@@ -287,15 +315,25 @@ fn hand_over(library: &mut Library, links: &Links, floor: &Floor, desk: &mut Des
 /// Gives every session back.
 fn give_all_back(library: &mut Library, links: &Links, floor: &Floor, desk: &mut Desk)
     requires table { library.old.ends.seat.table ≡ links.now.leases.now }
+    ensures gives { GivesAllBack library.old library.new }
     ensures belongings { belongings library.new.ends ≡ belongings library.old.ends }
 {
     'giving: for s in 0..floor.sessions() {
-        let lease = desk.lease_of(s);
-        if lease > 0 {
-            floor.place(s).give_back(lease);
-            give_back(library, links, s);
-            desk.set_lease(s, 0);
-        }
+        give_back_if_held(library, links, floor, desk, s);
+    }
+}
+
+/// Gives a session back that the library has.
+fn give_back_if_held(library: &mut Library, links: &Links, floor: &Floor, desk: &mut Desk, s: u16)
+    requires table { library.old.ends.seat.table ≡ links.now.leases.now }
+    ensures gives { (library.new ≡ library.old) ⊎ GivesBack s library.old library.new }
+    ensures belongings { belongings library.new.ends ≡ belongings library.old.ends }
+{
+    let lease = desk.lease_of(s);
+    if lease > 0 {
+        floor.place(s).give_back(lease);
+        give_back(library, links, s);
+        desk.set_lease(s, 0);
     }
 }
 
@@ -308,10 +346,14 @@ fn tell_done<R: rt::Clock>(
     finished: bool,
 )
     requires tail { library.old.ends.tail.ring ≡ links.now.commands.now }
+    ensures tells { TellsDone finished library.old library.new }
     ensures belongings { belongings library.new.ends ≡ belongings library.old.ends }
 {
     'telling: for _tries in 0..TELLINGS {
-        if floor.has_stopped() || library.done(links, finished).is_ok() {
+        if floor.has_stopped() {
+            return;
+        }
+        if say_done(library, links, finished) {
             return;
         }
         thread::sleep(rt, Duration::from_micros(NAP));
@@ -320,14 +362,19 @@ fn tell_done<R: rt::Clock>(
 
 impl Desk {
     /// The lease of a session that this library has, so far as it knows, or 0.
-    fn lease_of(&self, s: u16) -> u32 {
+    fn lease_of(&self, s: u16) -> u32
+        ensures { result ≡ slice_index_or self.now.leases.items s 0 }
+    {
         match self.leases.get(usize::from(s)) {
             Some(lease) => *lease,
             None => 0,
         }
     }
 
-    fn set_lease(&mut self, s: u16, lease: u32) {
+    fn set_lease(&mut self, s: u16, lease: u32)
+        ensures leases { self.new.leases.items ≡ slice_set self.old.leases.items s lease }
+        ensures number { self.new.number ≡ self.old.number }
+    {
         if let Some(slot) = self.leases.get_mut(usize::from(s)) {
             *slot = lease;
         }

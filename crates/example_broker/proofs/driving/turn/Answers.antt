@@ -1,7 +1,26 @@
-use Rattle.std.proofs.Common.{ap, ◌∙◌}
+use Rattle.std.proofs.Common.{refl, ap, ◌∙◌}
+use Rattle.engine_loop.specs.Turns.{at_wire}
 use Rattle.example_broker.proofs.Ends.{knows_same}
 use Rattle.example_broker.proofs.driving.turn.Goals as goal
 use Rattle.example_broker.proofs.driving.turn.Goals.{then-is_idle, else-is_idle}
+
+pub returns-clause-makes : goal.returns-clause-makes
+returns-clause-makes g c = elim c.if-is_idle.branch [
+  | then-is_idle w ↦ record {
+    made = at_wire c.turn.new.self (g.W.Wire.door c.turn.new.wire) (g.W.Wire.link c.turn.new.wire);
+    makes = c.in_ok-turn.ensures.turns;
+    engine = refl;
+    door = ap g.W.Wire.door w.wire-is ∙ w.pause.ensures.door_stays;
+    links = λ k. ap (λ wire. g.W.Wire.link wire k) w.wire-is ∙ w.pause.ensures.links_stay k;
+  }
+  | else-is_idle w ↦ record {
+    made = at_wire c.turn.new.self (g.W.Wire.door c.turn.new.wire) (g.W.Wire.link c.turn.new.wire);
+    makes = c.in_ok-turn.ensures.turns;
+    engine = refl;
+    door = ap g.W.Wire.door w.wire-is;
+    links = λ k. ap (λ wire. g.W.Wire.link wire k) w.wire-is;
+  }
+]
 
 pub returns-clause-engine : goal.returns-clause-engine
 returns-clause-engine g c = elim c.if-is_idle.branch [

@@ -1,7 +1,5 @@
-use Rattle.std.proofs.Common.{ap, ◌∙◌}
-use Rattle.std.specs.Option.{is_some}
-use Rattle.example_broker.proofs.Fills.{still_there}
+use Rattle.example_broker.proofs.Fills.{other_texts}
 use Rattle.example_broker.proofs.books.Book.note.Goals as goal
 
 pub returns-clause-others : goal.returns-clause-others
-returns-clause-others c = λ other was. ap is_some (c.in-Ok.ensures.updates.0 other) ∙ still_there _ _ _ was
+returns-clause-others c = λ other differs. c.in-Ok.ensures.updates.2 other (other_texts _ _ differs)
