@@ -1,7 +1,7 @@
 //! Messages that look random: most of them with the number that comes next, some garbled.
 
-use crate::draw::Draw;
 use crate::texts::{frame, soh};
+use draws::Draw;
 use gate_io::NoMemory;
 use std::alloc::Global;
 

@@ -1,12 +1,11 @@
 //! What can be asked of the session and of its last connection.
 
 use crate::desk::Desk;
-use crate::finding::{said, shown};
 use crate::texts::{T, legible};
 use connection_core::Connection;
 use gate_io::NoMemory;
 use message_log::{InLog, OutLog};
-use row_text::Words;
+use row_text::{Words, said, shown};
 use session_book::SessionBook;
 use std::alloc::Global;
 

@@ -5,12 +5,11 @@ ghost use Rattle.std.specs.List.{All};
 ghost use Rattle.resend_plan.specs.Fit.{IsFit};
 
 use crate::desk::Desk;
-use crate::finding::{done, said, shown};
 use crate::texts::soh;
 use book_desk::put_body;
 use gate_io::{Bytes, NoMemory};
 use lease_core::{Shown, Standing, Word};
-use row_text::Words;
+use row_text::{Words, done, said, shown};
 use std::alloc::Global;
 use std::collections::VecDeque;
 

@@ -17,10 +17,8 @@
 mod comings;
 mod comparing;
 mod desk;
-mod draw;
 mod draw_text;
 mod facts;
-mod finding;
 mod leases;
 mod plain_cut;
 mod plain_run;

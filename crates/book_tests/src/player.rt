@@ -3,12 +3,11 @@
 use crate::comings::come;
 use crate::desk::Desk;
 use crate::facts::what_is;
-use crate::finding::{done, fault_of, said, shown};
 use crate::leases::perform;
 use crate::steps::{Step, read_step};
 use crate::texts::legible;
 use gate_io::NoMemory;
-use row_text::{Course, Fault, Step as Line};
+use row_text::{Course, Fault, Step as Line, done, fault_of, said, shown};
 use std::alloc::Global;
 
 /// A desk, and how many of its entries were told.

@@ -5,13 +5,13 @@ ghost use Rattle.resend_plan.specs.Fit.{IsFit};
 
 use crate::comparing::{Difference, told_to_wait, what_differs};
 use crate::desk::{Desk, Left};
-use crate::draw::Draw;
 use crate::draw_text::{draw_bytes, draw_logon, draw_message};
 use crate::plain_run::{Happening, PlainRun};
 use crate::tally::Tally;
 use crate::texts::T;
 use anyhow::bail;
 use book_desk::put_body;
+use draws::Draw;
 use gate_io::{Bytes, NoMemory};
 use lease_core::{Standing, Word};
 use session_core::Cause;

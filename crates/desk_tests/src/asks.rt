@@ -4,12 +4,11 @@ ghost use Rattle.std.specs.Prelude.{OnOk};
 ghost use Rattle.desk_tests.specs.Outset.{IsOpen};
 
 use crate::engine;
-use crate::finding::{fault_of, said, shown};
 use crate::steps::rest_of;
 use gate_io::NoMemory;
 use lease_desk::LeaseDesk;
 use library_desk::Shared;
-use row_text::{Course, Fault, Step as Line, Words};
+use row_text::{Course, Fault, Step as Line, Words, fault_of, said, shown};
 use std::alloc::Global;
 
 /// `asks LIBRARY NR S FROM`: a library's request, by its number, for a session from a position on.

@@ -1,10 +1,9 @@
 //! What libraries do.
 
-use crate::finding::{done, said, shown};
 use crate::texts::{order, soh};
 use gate_io::NoMemory;
 use library_play::{Application, Seen};
-use row_text::Words;
+use row_text::{Words, done, said, shown};
 use std::alloc::Global;
 
 /// What a library does. Its number stands before the other words.

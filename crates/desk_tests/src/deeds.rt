@@ -5,12 +5,11 @@ ghost use Rattle.desk_tests.specs.Running.{IsRunning};
 
 use crate::engine;
 use crate::engine_desk::EngineDesk;
-use crate::finding::{done, said, shown};
 use crate::making::HOLD;
 use crate::texts::moment;
 use gate_io::NoMemory;
 use library_desk::Shared;
-use row_text::Words;
+use row_text::{Words, done, said, shown};
 use std::alloc::Global;
 
 /// Sessions are named by their numbers, 0 and 1.

@@ -14,7 +14,7 @@ use lease_core::{Record, Reply};
 use lease_desk::LeaseDesk;
 use lease_desk::laws::boards_stay_in_step;
 use library_desk::laws::{cursors_stay, serving_happens};
-use library_desk::{LibTurn, Shared};
+use library_desk::{LibTurn, Owners, Shared};
 use session_core::Cause;
 use session_desk::laws::sessions_proceed;
 use std::alloc::Global;
@@ -111,7 +111,10 @@ pub fn serve(
     if library == 0 || usize::from(library) > desk.libraries.ends.len() {
         return Ok(None);
     }
-    let turn = desk.libraries.serve(alloc, shared, library, at, until)?;
+    let mut owners = Owners::of(&desk.libraries.desk.board);
+    let turn = desk
+        .libraries
+        .serve(alloc, shared, &mut owners, library, at, until)?;
     Ok(Some(turn))
 }
 

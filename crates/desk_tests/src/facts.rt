@@ -2,12 +2,11 @@
 
 ghost use Rattle.std.specs.Prelude.{◌<◌, length};
 
-use crate::finding::{said, shown};
 use crate::texts::{T, legible};
 use connection_core::Connection;
 use gate_io::NoMemory;
 use library_desk::LibraryDesk;
-use row_text::Words;
+use row_text::{Words, said, shown};
 use session_book::SessionBook;
 use std::alloc::Global;
 use switchboard::Switchboard;

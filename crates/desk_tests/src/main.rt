@@ -16,7 +16,6 @@ mod deeds;
 mod engine;
 mod engine_desk;
 mod facts;
-mod finding;
 mod making;
 mod morning;
 mod outset;

@@ -10,14 +10,13 @@ use crate::deeds::perform;
 use crate::engine;
 use crate::engine_desk::EngineDesk;
 use crate::facts::what_is;
-use crate::finding::{done, fault_of, said, shown};
 use crate::steps::{Step, read_step};
 use gate_io::NoMemory;
 use lease_core::Entry;
 use library_api::{LibraryEnds2, Links};
 use library_desk::{LibraryDesk, Shared};
 use library_play::Application;
-use row_text::{Course, Fault, Step as Line};
+use row_text::{Course, Fault, Step as Line, done, fault_of, said, shown};
 use std::alloc::Global;
 
 /// The two libraries, the clock, and how many entries of each session were told.

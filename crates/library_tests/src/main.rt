@@ -22,7 +22,6 @@
 mod acts;
 mod answers;
 mod calls;
-mod draw;
 mod engine;
 mod lines;
 mod many;

@@ -1,9 +1,9 @@
 //! An engine and a library in threads of their own: messages go one way and sends the other, while
 //! the engine takes sessions back and the library gives them back at random.
-use crate::draw::Draw;
 use crate::engine::Engine;
 use crate::shared::{Limits, Shared};
 use anyhow::{Context, Result, bail};
+use draws::Draw;
 use gate_io::Bytes;
 use lease_core::{Command, Why};
 use lease_words::Item;

@@ -1,146 +1,120 @@
-//! Plans against the plain walk, over generated logs, and rows worked by hand.
-ghost use Rattle.std.specs.Prelude.{◌≡◌, ◌<◌, ◌≤◌, length};
+//! Plans, in words and beside the plain ones.
 
-use crate::cases::{MORNING, Rule, entry, generated};
-use crate::checks::same_at;
+use crate::both::Both;
 use crate::plain::plain_plan;
 use gate_io::NoMemory;
-use message_log::{LAST_SERIES, OutEntry, OutLog};
+use message_log::{OutEntry, OutLog};
 use resend_plan::{WireItem, plan};
 use std::alloc::Global;
 use std::fmt::Write;
-use std::process::Abort;
-use std::test::Fail;
 
-/// Compares the plans of ranges that begin and end all over a series, and beyond its end.
-fn compare(
-    rt: &impl Abort,
-    alloc: Global,
-    log: &OutLog,
-    series: u32,
-    entries: &[OutEntry],
-) -> Result<(), NoMemory>
-    requires from_one { 1 ≤ series }
-    requires of_log { series ≤ length log.now.series }
-{
-    let count = entries.len() as u64;
-    let step = (count / 7).max(1);
-    for i in 0..10u64 {
-        for j in 0..10u64 {
-            let begin = i.saturating_mul(step).saturating_add(j / 5);
-            let last = j.saturating_mul(step).saturating_add(i / 3);
-            let got = plan(alloc, log, series, begin, last, 5)?;
-            let want = plain_plan(alloc, entries, series, begin, last, 5)?;
-            same_at(
-                rt,
-                &got.as_slice(),
-                &want.as_slice(),
-                &(series, begin, last, count),
-            );
-        }
-    }
-    Ok(())
+/// The numbers that are asked for, of a series. They end with the series where `last` is 0.
+#[derive(Clone, Copy, Debug)]
+pub struct Asked {
+    pub series: u32,
+    pub begin: u64,
+    pub last: u64,
 }
 
-/// Draws a log, and plans all over each of its series.
-fn compare_all(rt: &impl Abort, alloc: Global, count: u64, rule: Rule) -> Result<(), NoMemory> {
-    let both = generated(alloc, count, rule)?;
-    let mut series = 1u32;
-    for entries in &both.past {
-        assert!(rt; series >= 1 && series < both.log.series());
-        compare(rt, alloc, &both.log, series, entries.as_slice())?;
-        series += 1;
-    }
-    assert!(rt; series == both.log.series());
-    compare(rt, alloc, &both.log, series, both.present.as_slice())
-}
-
-#[test]
-fn generated_logs_are_planned_alike(rt: HostRuntime) -> Result<(), Fail> {
-    let rows = [
-        (0, Rule::new(1, 50, 0)),
-        (1, Rule::new(2, 100, 0)),
-        (6, Rule::new(3, 50, 300)),
-        (500, Rule::new(4, 60, 20)),
-        (1025, Rule::new(5, 100, 0)),
-        (2000, Rule::new(6, 0, 0)),
-        (3000, Rule::new(7, 90, 2)),
-        (5000, Rule::new(8, 50, 1)),
-    ];
-    for (count, rule) in rows {
-        compare_all(&rt, rt.alloc(), count, rule)?;
-    }
-    Ok(())
-}
-
-/// Logon, application, Heartbeat, application; and a second series with a Logon alone.
-fn morning(alloc: Global) -> Result<OutLog, NoMemory> {
-    let mut log = OutLog::new(alloc);
-    for admin in [true, false, true, false] {
-        log.push(alloc, entry(alloc, MORNING, admin, "35=8|")?)?;
-    }
-    if log.series() < LAST_SERIES {
-        log.turn_over(alloc)?;
-    }
-    log.push(alloc, entry(alloc, MORNING, true, "35=A|")?)?;
-    Ok(log)
-}
-
-/// A plan in words: `1:2` for number 2 of series 1, sent again, and `1:3-4` for a gap fill from 3 up to
-/// 4.
+/// What is planned, to be sent at this moment, if the log has the series.
 fn planned(
     alloc: Global,
     log: &OutLog,
-    series: u32,
-    begin: u64,
-    last: u64,
-) -> Result<String, NoMemory> {
-    let mut text = String::new(alloc);
+    asked: Asked,
+    at: u64,
+) -> Result<Option<Vec<WireItem>>, NoMemory> {
+    let Asked {
+        series,
+        begin,
+        last,
+    } = asked;
     if series == 0 || series > log.series() {
-        return Ok(text);
+        return Ok(None);
     }
-    for item in plan(alloc, log, series, begin, last, MORNING)? {
-        push_item(&mut text, item)?;
+    Ok(Some(plan(alloc, log, series, begin, last, at)?))
+}
+
+/// A plan in words: `1:2` for number 2 of series 1, sent again, and `1:3-4` for a gap fill from 3 up to
+/// 4. It is None where the log hasn't the series.
+pub fn plan_text(alloc: Global, log: &OutLog, asked: Asked) -> Result<Option<String>, NoMemory> {
+    let Some(items) = planned(alloc, log, asked, 0)? else {
+        return Ok(None);
+    };
+    let mut text = String::new(alloc);
+    for item in &items {
+        if !text.is_empty() {
+            text.push(' ')?;
+        }
+        push_item(&mut text, *item)?;
     }
-    Ok(text)
+    Ok(Some(text))
 }
 
 fn push_item(text: &mut String, item: WireItem) -> Result<(), NoMemory> {
     match item {
-        WireItem::New { number, .. } => write!(text, "new {number} ")?,
-        WireItem::Again { series, number, .. } => write!(text, "{series}:{number} ")?,
+        WireItem::New { number, .. } => write!(text, "new {number}")?,
+        WireItem::Again { series, number, .. } => write!(text, "{series}:{number}")?,
         WireItem::GapFill {
             series,
             number,
             to,
             ..
-        } => write!(text, "{series}:{number}-{to} ")?,
+        } => write!(text, "{series}:{number}-{to}")?,
     }
     Ok(())
 }
 
-#[test]
-fn plans_worked_by_hand(rt: HostRuntime) -> Result<(), Fail> {
-    let log = morning(rt.alloc())?;
-    let rows = [
-        (1, 1, 0, "1:1-2 1:2 1:3-4 1:4 "),
-        (1, 2, 3, "1:2 1:3-4 "),
-        (1, 4, 4, "1:4 "),
-        (2, 1, 999_999, "2:1-2 "),
-    ];
-    for (series, begin, last, want) in rows {
-        let got = planned(rt.alloc(), &log, series, begin, last)?;
-        same_at(&rt, &got.as_str(), &want, &(series, begin, last));
-    }
-    Ok(())
+// Whether the plan is as the plain one, of these entries.
+fn is_alike(
+    alloc: Global,
+    log: &OutLog,
+    entries: &[OutEntry],
+    asked: Asked,
+) -> Result<bool, NoMemory> {
+    let Some(got) = planned(alloc, log, asked, 5)? else {
+        return Ok(false);
+    };
+    let want = plain_plan(alloc, entries, asked.series, asked.begin, asked.last, 5)?;
+    Ok(got.as_slice() == want.as_slice())
 }
 
-#[test]
-fn nothing_is_planned_outside_the_log(rt: HostRuntime) -> Result<(), Fail> {
-    let log = morning(rt.alloc())?;
-    for (begin, last) in [(5, 0), (0, 0), (0, 4), (3, 2), (7, 9)] {
-        let none = planned(rt.alloc(), &log, 1, begin, last)?;
-        same_at(&rt, &none.as_str(), &"", &(begin, last));
+// The range of this place in a square of ranges that begin and end all over a series of so many entries,
+// and beyond its end.
+fn range_at(series: u32, count: u64, place: u64) -> Asked {
+    let step = (count / 7).max(1);
+    let (i, j) = (place / 10, place % 10);
+    Asked {
+        series,
+        begin: i.saturating_mul(step).saturating_add(j / 5),
+        last: j.saturating_mul(step).saturating_add(i / 3),
     }
-    Ok(())
+}
+
+// The first range of a series whose plan differs from the plain one.
+fn differing(
+    alloc: Global,
+    log: &OutLog,
+    series: u32,
+    entries: &[OutEntry],
+) -> Result<Option<Asked>, NoMemory> {
+    for place in 0..100 {
+        let asked = range_at(series, entries.len() as u64, place);
+        if !is_alike(alloc, log, entries, asked)? {
+            return Ok(Some(asked));
+        }
+    }
+    Ok(None)
+}
+
+/// Plans all over each series. Answers the first range whose plan differs from the plain one.
+pub fn first_differing(alloc: Global, both: &Both) -> Result<Option<Asked>, NoMemory> {
+    let mut series = 1u32;
+    for entries in &both.past {
+        let found = differing(alloc, &both.log, series, entries.as_slice())?;
+        if found.is_some() {
+            return Ok(found);
+        }
+        series = series.saturating_add(1);
+    }
+    differing(alloc, &both.log, series, both.present.as_slice())
 }

@@ -1,13 +1,11 @@
-//! Deadlines worked by hand, and against a plain scan over generated calls.
+//! Deadlines against a plain scan, over generated calls.
 ghost use Rattle.std.specs.Prelude.{◌≡◌, ◌<◌, length};
 
-use crate::checks::same_at;
 use crate::draw::Draw;
+use anyhow::{Result, ensure};
 use gate_io::NoMemory;
 use library_clock::Deadlines;
 use std::alloc::Global;
-use std::process::Abort;
-use std::test::Fail;
 
 const SESSIONS: u16 = 64;
 
@@ -35,16 +33,18 @@ impl Both {
         Ok(())
     }
 
-    /// Asks both for what is due until nothing is.
-    fn ask(&mut self, rt: &impl Abort, moment: u64) {
+    // Asks both for what is due until nothing is, and says whether they answer alike.
+    fn are_alike(&mut self, moment: u64) -> bool {
         for _ in 0..=SESSIONS {
             let want = take_first(&mut self.plain, moment);
-            let got = self.fast.due(moment);
-            same_at(rt, &got.map(usize::from), &want, &moment);
+            if self.fast.due(moment).map(usize::from) != want {
+                return false;
+            }
             if want.is_none() {
-                return;
+                return true;
             }
         }
+        false
     }
 }
 
@@ -63,26 +63,6 @@ fn take_first(list: &mut Vec<Option<u64>>, moment: u64) -> Option<usize> {
     Some(s)
 }
 
-#[test]
-fn generated_deadlines_come_alike(rt: HostRuntime) -> Result<(), Fail> {
-    let mut draw = Draw::new(2026);
-    for list in 0..300u64 {
-        let mut both = Both::new(rt.alloc())?;
-        let mut moment = list;
-        for _ in 0..60 {
-            let s = draw.below(64) as u16;
-            let at = draw_deadline(&mut draw, moment);
-            both.set(rt.alloc(), s, at)?;
-            if draw.below(4) == 0 {
-                moment = moment.saturating_add(u64::from(draw.below(8)));
-                both.ask(&rt, moment);
-            }
-        }
-        both.ask(&rt, u64::MAX);
-    }
-    Ok(())
-}
-
 fn draw_deadline(draw: &mut Draw, moment: u64) -> Option<u64> {
     let ahead = u64::from(draw.below(30));
     match draw.below(5) {
@@ -91,56 +71,39 @@ fn draw_deadline(draw: &mut Draw, moment: u64) -> Option<u64> {
     }
 }
 
-/// A deadline that is set, or the session that must be due at a moment.
-#[derive(Clone, Copy)]
-enum Row {
-    Set(u16, Option<u64>),
-    Due(u64, Option<u16>),
+// Sets a deadline, and says whether both answer alike where they are then asked.
+fn play(
+    alloc: Global,
+    both: &mut Both,
+    draw: &mut Draw,
+    moment: &mut u64,
+) -> Result<bool, NoMemory> {
+    let s = draw.below(64) as u16;
+    let at = draw_deadline(draw, *moment);
+    both.set(alloc, s, at)?;
+    if draw.below(4) > 0 {
+        return Ok(true);
+    }
+    *moment = moment.saturating_add(u64::from(draw.below(8)));
+    Ok(both.are_alike(*moment))
 }
 
-const ROWS: [Row; 24] = [
-    Row::Due(1000, None),
-    // At equal moments the least session comes first.
-    Row::Set(3, Some(100)),
-    Row::Set(1, Some(100)),
-    Row::Set(2, Some(100)),
-    Row::Due(99, None),
-    Row::Due(100, Some(1)),
-    Row::Due(100, Some(2)),
-    Row::Due(100, Some(3)),
-    Row::Due(100, None),
-    // The least session comes first too where its deadline is the later one.
-    Row::Set(5, Some(10)),
-    Row::Set(4, Some(20)),
-    Row::Set(0, Some(31)),
-    Row::Due(30, Some(4)),
-    Row::Due(30, Some(5)),
-    Row::Due(30, None),
-    // A deadline is moved earlier, moved later and taken away.
-    Row::Set(0, Some(25)),
-    Row::Due(30, Some(0)),
-    Row::Set(6, Some(40)),
-    Row::Set(6, Some(60)),
-    Row::Due(59, None),
-    Row::Set(7, Some(40)),
-    Row::Set(7, None),
-    Row::Due(60, Some(6)),
-    Row::Due(60, None),
-];
-
-#[test]
-fn deadlines_worked_by_hand(rt: HostRuntime) -> Result<(), Fail> {
-    let mut deadlines = Deadlines::new(rt.alloc(), 8)?;
-    for row in ROWS {
-        match row {
-            Row::Set(s, at) => {
-                assert!(rt; s < 8);
-                deadlines.set(rt.alloc(), s, at)?;
-            }
-            Row::Due(moment, want) => {
-                same_at(&rt, &deadlines.due(moment), &want, &moment);
-            }
+fn play_list(alloc: Global, draw: &mut Draw, from: u64) -> Result<bool, NoMemory> {
+    let mut both = Both::new(alloc)?;
+    let mut moment = from;
+    for _ in 0..60u32 {
+        if !play(alloc, &mut both, draw, &mut moment)? {
+            return Ok(false);
         }
+    }
+    Ok(both.are_alike(u64::MAX))
+}
+
+/// Generated deadlines come alike.
+pub(crate) fn play_lists(alloc: Global) -> Result<()> {
+    let mut draw = Draw::new(2026);
+    for list in 0..300u64 {
+        ensure!(play_list(alloc, &mut draw, list)?, "list {list}");
     }
     Ok(())
 }

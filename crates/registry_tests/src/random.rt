@@ -1,12 +1,10 @@
 //! The registry against the plain program, over generated calls.
 use crate::acts::{Act, Answer, play};
-use crate::checks::{holds, same, same_at};
 use crate::draw::Draw;
-use crate::plain::{GiveUp, lines_of, state_of, step, word_of};
-use lease_core::{Entry, Event, Registry, Reply, Shown, Standing, Why, Word};
+use crate::plain::{GiveUp, PlainState, lines_of, state_of, step, word_of};
+use anyhow::{Result, ensure};
+use lease_core::{Entry, Event, Line, Registry, Reply, Shown, Standing, Why, Word};
 use std::alloc::Global;
-use std::process::Abort;
-use std::test::Fail;
 
 fn draw_standing(draw: &mut Draw) -> Standing {
     match draw.below(6) {
@@ -109,35 +107,43 @@ impl Both {
         })
     }
 
-    pub fn play(&mut self, rt: &impl Abort, act: Act) -> Result<(), GiveUp> {
+    /// Makes a call of both, and says whether they answer it alike and are alike behind it.
+    pub fn play(&mut self, act: Act) -> Result<bool, GiveUp> {
         let got = play(&mut self.registry, act)?;
         if got == Answer::Unlawful {
-            return Ok(());
+            return Ok(true);
         }
         let want = self.expected(act)?;
-        same_at(rt, &got, &want, &act);
-        self.compare(rt)
+        Ok(got == want && self.are_alike()?)
     }
 
-    fn compare(&self, rt: &impl Abort) -> Result<(), GiveUp> {
-        let registry = &self.registry;
+    // Whether the registry is as the plain program has it.
+    fn are_alike(&self) -> Result<bool, GiveUp> {
         let state = state_of(self.alloc, &self.entries)?;
         let lines = lines_of(self.alloc, &self.entries)?;
-        same(rt, &registry.entries(), &self.entries.as_slice());
-        same(rt, &registry.holdings(), &state.holdings());
-        same(rt, &registry.owner().0, &state.owner());
-        same(rt, &(registry.owner().1 as usize), &lines.len());
-        same(rt, &registry.reserved(), &state.reserved());
-        same(rt, &registry.bound(), &state.bound());
-        same(rt, &(registry.series().0 as usize), &state.series().len());
-        same(
-            rt,
-            &registry.series().1.checked_add(1),
-            &state.next_number().ok(),
-        );
-        same(rt, &registry.in_len(), &state.inbound());
-        same(rt, &registry.word(), &word_of(&lines)?);
-        Ok(())
+        let word = word_of(&lines)?;
+        Ok(
+            self.has_entries(&state, &lines)
+                && self.has_lengths(&state)
+                && self.registry.word() == word,
+        )
+    }
+
+    fn has_entries(&self, state: &PlainState, lines: &[Line]) -> bool {
+        let registry = &self.registry;
+        registry.entries() == self.entries.as_slice()
+            && registry.holdings() == state.holdings()
+            && registry.owner().0 == state.owner()
+            && registry.owner().1 as usize == lines.len()
+            && registry.reserved() == state.reserved()
+            && registry.bound() == state.bound()
+    }
+
+    fn has_lengths(&self, state: &PlainState) -> bool {
+        let registry = &self.registry;
+        registry.series().0 as usize == state.series().len()
+            && registry.series().1.checked_add(1) == state.next_number().ok()
+            && registry.in_len() == state.inbound()
     }
 
     /// A call, drawn: mostly a lawful one.
@@ -172,22 +178,34 @@ fn draw_word(draw: &mut Draw, word: Word) -> Word {
     }
 }
 
-#[test]
-fn generated_calls_are_answered_alike(rt: HostRuntime) -> Result<(), Fail> {
-    let mut draw = Draw::new(2026);
-    let mut kinds = Kinds::default();
-    for _ in 0..300u32 {
-        let limit = 1 + draw.below(6);
-        let mut both = Both::new(rt.alloc(), limit)?;
-        for _ in 0..70u32 {
-            let act = both.draw_act(&mut draw);
-            both.play(&rt, act)?;
-        }
-        for entry in &both.entries {
-            kinds.note(*entry);
+/// Makes so many drawn calls of both, and says whether they stay alike.
+pub fn play_drawn(both: &mut Both, draw: &mut Draw, count: u32) -> Result<bool, GiveUp> {
+    for _ in 0..count {
+        let act = both.draw_act(draw);
+        if !both.play(act)? {
+            return Ok(false);
         }
     }
-    holds(&rt, kinds.all_seen(), &kinds);
+    Ok(true)
+}
+
+// A list of calls. It says whether both stay alike.
+fn play_list(alloc: Global, draw: &mut Draw, kinds: &mut Kinds) -> Result<bool, GiveUp> {
+    let limit = 1 + draw.below(6);
+    let mut both = Both::new(alloc, limit)?;
+    let are_alike = play_drawn(&mut both, draw, 70)?;
+    kinds.note_all(&both.entries);
+    Ok(are_alike)
+}
+
+/// Generated calls are answered alike, and among them is every kind of entry and of refusal.
+pub fn play_lists(alloc: Global) -> Result<()> {
+    let mut draw = Draw::new(2026);
+    let mut kinds = Kinds::default();
+    for list in 0..300u32 {
+        ensure!(play_list(alloc, &mut draw, &mut kinds)?, "list {list}");
+    }
+    ensure!(kinds.all_seen(), "{kinds:?}");
     Ok(())
 }
 
@@ -221,6 +239,12 @@ impl Kinds {
             Entry::Reset { .. } => self.reset = true,
             Entry::Plan { .. } => self.planned = true,
             _ => {}
+        }
+    }
+
+    fn note_all(&mut self, entries: &[Entry]) {
+        for entry in entries {
+            self.note(*entry);
         }
     }
 

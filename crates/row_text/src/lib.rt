@@ -5,10 +5,12 @@
 //! the program looks. An empty line and one that begins with `#` are for the reader alone.
 #![tactic(auto)]
 
+mod finding;
 mod playing;
 mod rows;
 mod words;
 
+pub use finding::{done, fault_of, said, shown};
 pub use playing::{Course, Fault, Player, end, play_file};
 pub use rows::{Row, Step, rows_of};
 pub use words::Words;

@@ -7,7 +7,6 @@
 //! wrong, and writes that report to standard output.
 #![tactic(auto)]
 
-mod draw;
 mod drowsy;
 mod faults;
 mod faulty;

@@ -1,9 +1,9 @@
 //! One run, with the verdict on its report.
 
-use crate::draw::Draw;
 use crate::scripts::script;
 use crate::traffic::wire;
 use anyhow::{Result, bail};
+use draws::Draw;
 use gate_io::{Clock, Gate, MemSink, MemSource};
 use gateway_run::{Status, serve};
 use journal_audit::{LONGEST_REPORT, Verdict, audit};

@@ -1,7 +1,7 @@
 //! A script of eight libraries, made at random.
 
-use crate::draw::Draw;
 use anyhow::Result;
+use draws::Draw;
 use std::alloc::Global;
 
 /// How many sessions there are, as many libraries, and how many lines a library has.

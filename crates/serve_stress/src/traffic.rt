@@ -3,8 +3,8 @@
 ghost use Rattle.std.specs.Prelude.{◌≡◌, ◌<◌, ◌≤◌, ◌+◌, IfOk, length};
 ghost use Rattle.gate_io.specs.declared.wires.TheConstants.{MOST_CONNECTIONS};
 
-use crate::draw::Draw;
 use anyhow::{Result, bail};
+use draws::Draw;
 use fix_frame::{is_body, write_frame};
 use gate_io::MemWire;
 use std::alloc::Global;

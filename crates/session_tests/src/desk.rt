@@ -1,127 +1,173 @@
-//! A session whose acts are told as text.
-ghost use Rattle.seq_gaps.specs.Line.{IsNumber};
+//! A session at its clock, whose acts are told as text.
+ghost use Rattle.std.specs.Prelude.{◌≡◌, ◌+◌, ◌≤◌, IsSome, true};
+ghost use Rattle.gate_io.specs.declared.clocks.TheConstants.{LAST_MOMENT};
+ghost use Rattle.seq_gaps.specs.declared.offered.TheConstants.{MAX_NUMBER};
+ghost use Rattle.session_core.specs.declared.phases.Phase.TheVariants.{Off};
 
+use crate::texts::{T, legible, soh};
 use gate_io::{LAST_MOMENT, NoMemory};
-use session_core::{Act, Cause, Effects, Session, admin_body};
+use session_core::{Act, Admin, Effects, Names, Session, admin_body};
 use std::alloc::Global;
+use std::fmt::Write;
 
-/// 2026-01-05 09:30:00.
-pub const T: u64 = 1_767_605_400_000;
+/// The HeartBtInt of a session that dials, in seconds.
+const HEART: u32 = 30;
 
-/// The bytes of a text in which `|` stands for SOH and `(n)` for the names and the number n.
-pub fn body(alloc: Global, text: &str) -> Result<Vec<u8>, NoMemory> {
-    let mut bytes = Vec::new(alloc);
-    for byte in text.as_bytes() {
-        match *byte {
-            b'|' | b')' => bytes.push(1)?,
-            b'(' => bytes.extend_from_slice(b"49=BUYER\x0156=GATE\x0134=")?,
-            _ => bytes.push(*byte)?,
-        }
-    }
-    Ok(bytes)
-}
-
-/// A session with the number of what it sent last.
+/// The session GATE/BUYER, the moment at which its clock stands, and the number of what it sent last.
 #[derive(Drop)]
 pub struct Desk {
-    pub session: Session,
+    session: Session,
+    dials: bool,
+    is_off: bool,
+    moment: u64,
     last_number: u64,
+    ghost asks: { dials ≡ true → IsSome session.dials },
+    ghost off: { is_off ≡ true → session.phase ≡ Off },
+    ghost within: { moment ≤ LAST_MOMENT },
 }
 
 impl Desk {
+    /// A session that accepts connections, and expects 1.
     pub fn new(alloc: Global) -> Result<Desk, NoMemory> {
-        let us = body(alloc, "GATE")?;
-        let them = body(alloc, "BUYER")?;
+        let session = Session::new(alloc, soh(alloc, "GATE")?, soh(alloc, "BUYER")?)?;
+        Ok(Desk::of(session))
+    }
+
+    /// A session that accepts connections, and goes on from a record.
+    pub fn resuming(alloc: Global, expected: u32) -> Result<Desk, NoMemory>
+        requires from { 1 ≤ expected }
+        requires to { expected ≤ MAX_NUMBER + 1 }
+    {
+        let us = soh(alloc, "GATE")?;
+        let them = soh(alloc, "BUYER")?;
+        let session = Session::resume(alloc, us, them, expected)?;
+        Ok(Desk::of(session))
+    }
+
+    /// A session that dials, and expects this number.
+    pub fn dialling(alloc: Global, expected: u32) -> Result<Desk, NoMemory>
+        requires from { 1 ≤ expected }
+        requires to { expected ≤ MAX_NUMBER + 1 }
+    {
+        let us = soh(alloc, "GATE")?;
+        let them = soh(alloc, "BUYER")?;
+        let session = Session::dialling(alloc, us, them, HEART, expected)?;
         Ok(Desk {
-            session: Session::new(alloc, us, them)?,
+            session,
+            dials: true,
+            is_off: true,
+            moment: T,
             last_number: 0,
         })
     }
 
-    /// A session that dialled at T with a HeartBtInt of 30 s, expects this number, and has sent its
-    /// Logon.
-    pub fn dialled(alloc: Global, expected: u32) -> Result<Desk, NoMemory>
-        requires { IsNumber expected }
-    {
-        let us = body(alloc, "GATE")?;
-        let them = body(alloc, "BUYER")?;
-        let mut session = Session::dialling(alloc, us, them, 30, expected)?;
-        session.ask(alloc, T)?;
-        Ok(Desk {
+    fn of(session: Session) -> Desk {
+        Desk {
             session,
-            last_number: 1,
-        })
+            dials: false,
+            is_off: false,
+            moment: T,
+            last_number: 0,
+        }
     }
 
-    pub fn receive(&mut self, alloc: Global, text: &str, moment: u64) -> Result<String, NoMemory> {
-        let body = body(alloc, text)?;
-        let effects = self.session.receive(alloc, body, moment.min(LAST_MOMENT))?;
-        self.tell(alloc, effects)
+    pub fn expected(&self) -> u32 {
+        self.session.expected()
     }
 
-    pub fn tick(&mut self, alloc: Global, moment: u64) -> Result<String, NoMemory> {
-        let effects = self.session.tick(alloc, moment.min(LAST_MOMENT))?;
-        self.tell(alloc, effects)
+    pub fn due(&self) -> Option<u64> {
+        self.session.due()
     }
 
-    /// The effects as text.
-    fn tell(&mut self, alloc: Global, effects: Effects) -> Result<String, NoMemory> {
+    pub fn names(&self) -> &Names {
+        self.session.names()
+    }
+
+    pub fn moment(&self) -> u64 {
+        self.moment
+    }
+
+    /// The clock stands at this moment, or at the last one.
+    pub fn set(&mut self, moment: u64) {
+        self.moment = moment.min(LAST_MOMENT);
+    }
+
+    /// An item for the connection is queued.
+    pub fn sent(&mut self) {
+        self.session.sent(self.moment);
+    }
+
+    /// The connection ended.
+    pub fn leave(&mut self) {
+        self.session.leave();
+        self.is_off = true;
+    }
+
+    /// The session dialled, if it is one that dials and is off.
+    pub fn ask(&mut self, alloc: Global) -> Result<Option<Effects>, NoMemory> {
+        if !self.dials || !self.is_off {
+            return Ok(None);
+        }
+        self.is_off = false;
+        let effects = self.session.ask(alloc, self.moment)?;
+        Ok(Some(effects))
+    }
+
+    /// A message comes. Answers what follows.
+    pub fn receive(&mut self, alloc: Global, text: &str) -> Result<String, NoMemory> {
+        let body = soh(alloc, text)?;
+        self.is_off = false;
+        let effects = self.session.receive(alloc, body, self.moment)?;
+        self.tell(alloc, &effects)
+    }
+
+    /// The clock asks the session what is due. Answers what follows.
+    pub fn tick(&mut self, alloc: Global) -> Result<String, NoMemory> {
+        self.is_off = false;
+        let effects = self.session.tick(alloc, self.moment)?;
+        self.tell(alloc, &effects)
+    }
+
+    /// Effects as text: what is sent stands as it is written with its number.
+    pub fn tell(&mut self, alloc: Global, effects: &Effects) -> Result<String, NoMemory> {
         let mut text = String::new(alloc);
         for act in effects.acts.as_slice() {
-            match act {
-                Act::Accept(body) => {
-                    text.push_str("[accept ")?;
-                    put_bytes(&mut text, body.as_slice())?;
-                }
-                Act::Send(admin) => {
-                    self.last_number = self.last_number.wrapping_add(1);
-                    let body = admin_body(alloc, admin, self.last_number)?;
-                    text.push_str("[send ")?;
-                    put_bytes(&mut text, &body)?;
-                }
-                Act::Resend { begin, last } => {
-                    let range = format!(in alloc; "[resend {begin} {last}")?;
-                    text.push_str(&range)?;
-                }
-                Act::Reset => {
-                    self.last_number = 0;
-                    text.push_str("[reset")?;
-                }
-            }
-            text.push_str("]")?;
+            put_act(alloc, &mut text, &mut self.last_number, act)?;
         }
         if let Some(cause) = effects.end {
-            let cause = cause_text(alloc, cause)?;
-            text.push_str(&cause)?;
+            write!(text, "[end {cause:?}]")?;
         }
         Ok(text)
     }
 }
 
-fn cause_text(alloc: Global, cause: Cause) -> Result<String, NoMemory> {
-    let text = match cause {
-        Cause::NotLogon => format!(in alloc; "[end NotLogon]")?,
-        Cause::BadLogon { tag } => format!(in alloc; "[end BadLogon {tag}]")?,
-        Cause::NoNumber => format!(in alloc; "[end NoNumber]")?,
-        Cause::LowNumber { expected, got } => format!(in alloc;
-            "[end LowNumber {expected} {got}]"
-        )?,
-        Cause::CompId { tag } => format!(in alloc; "[end CompId {tag}]")?,
-        Cause::Silent { since } => format!(in alloc; "[end Silent {since}]")?,
-        Cause::LoggedOut => format!(in alloc; "[end LoggedOut]")?,
-        _ => format!(in alloc; "[end otherwise]")?,
-    };
-    Ok(text)
+// Writes an act, behind which the number of what was sent last is as it says.
+fn put_act(
+    alloc: Global,
+    text: &mut String,
+    last_number: &mut u64,
+    act: &Act,
+) -> Result<(), NoMemory> {
+    match act {
+        Act::Accept(body) => put_bytes(alloc, text, "accept", body.as_slice()),
+        Act::Send(admin) => {
+            *last_number = last_number.wrapping_add(1);
+            put_admin(alloc, text, admin, *last_number)
+        }
+        Act::Resend { begin, last } => Ok(write!(text, "[resend {begin} {last}]")?),
+        Act::Reset => {
+            *last_number = 0;
+            Ok(text.push_str("[reset]")?)
+        }
+    }
 }
 
-/// Writes bytes with `|` for SOH.
-pub fn put_bytes(text: &mut String, bytes: &[u8]) -> Result<(), NoMemory> {
-    for byte in bytes {
-        text.push(if *byte == 1 {
-            '|'
-        } else {
-            (*byte % 128) as char
-        })?;
-    }
-    Ok(())
+fn put_admin(alloc: Global, text: &mut String, admin: &Admin, number: u64) -> Result<(), NoMemory> {
+    let body = admin_body(alloc, admin, number)?;
+    put_bytes(alloc, text, "send", body.as_slice())
+}
+
+fn put_bytes(alloc: Global, text: &mut String, word: &str, bytes: &[u8]) -> Result<(), NoMemory> {
+    let bytes = legible(alloc, bytes)?;
+    Ok(write!(text, "[{word} {bytes}]")?)
 }

@@ -1,10 +1,11 @@
 //! The rules told once more, slowly and in another way: bodies are kept whole and read again as they
 //! are carried out, and what follows is written down as text at once.
 
-use crate::desk::put_bytes;
+use crate::texts::legible;
 use fix_fields::{Fields, read_number};
 use gate_io::NoMemory;
 use std::alloc::Global;
+use std::fmt::Write;
 
 #[derive(Drop)]
 pub struct PlainSession {
@@ -72,17 +73,13 @@ impl PlainSession {
     fn send(&mut self, text: &str, moment: u64) -> Result<(), NoMemory> {
         self.last_number = self.last_number.wrapping_add(1);
         self.sent = moment;
-        self.said.push_str("[send ")?;
-        self.said.push_str(text)?;
-        self.said.push_str("]")?;
+        write!(self.said, "[send {text}]")?;
         Ok(())
     }
 
     fn end(&mut self, cause: &str) -> Result<(), NoMemory> {
         self.over = true;
-        self.said.push_str("[end ")?;
-        self.said.push_str(cause)?;
-        self.said.push_str("]")?;
+        write!(self.said, "[end {cause}]")?;
         Ok(())
     }
 
@@ -95,7 +92,7 @@ impl PlainSession {
         match self.waiting {
             Some(since) if moment >= since.wrapping_add(ms) => {
                 let since = self.received;
-                let cause = format!(in alloc; "Silent {since}")?;
+                let cause = format!(in alloc; "Silent {{ since: {since} }}")?;
                 return self.end(&cause);
             }
             None if moment >= late => {
@@ -128,16 +125,8 @@ impl PlainSession {
             self.send("35=5|58=MsgSeqNum missing|", moment)?;
             return self.end("NoNumber");
         }
-        let named_us = is(&fields, 56, b"GATE");
-        if !is(&fields, 49, b"BUYER") || !named_us {
-            let tag = if is(&fields, 49, b"BUYER") { 56 } else { 49 };
-            self.reject(alloc, &fields, n, tag, 9, moment)?;
-            if n == e {
-                self.expected = e.wrapping_add(1);
-            }
-            self.send("35=5|", moment)?;
-            let cause = format!(in alloc; "CompId {tag}")?;
-            return self.end(&cause);
+        if let Some(tag) = wrong_name(&fields) {
+            return self.turn_away(alloc, &fields, n, tag, moment);
         }
         if is(&fields, 35, b"4") && !is(&fields, 123, b"Y") {
             if self.moves(alloc, &fields, n, e, moment)? {
@@ -145,21 +134,51 @@ impl PlainSession {
             }
             return Ok(());
         }
-        if n < e {
-            if is(&fields, 43, b"Y") {
+        self.place(alloc, &fields, body, n, moment)
+    }
+
+    /// What becomes of a message by its number.
+    fn place(
+        &mut self,
+        alloc: Global,
+        fields: &Fields<'_>,
+        body: &[u8],
+        n: u32,
+        moment: u64,
+    ) -> Result<(), NoMemory> {
+        if n < self.expected {
+            if is(fields, 43, b"Y") {
                 return Ok(());
             }
             return self.too_low(alloc, n, moment);
         }
-        if n > e {
-            return self.early(alloc, &fields, body, n, moment);
+        if n > self.expected {
+            return self.early(alloc, fields, body, n, moment);
         }
-        self.expected = e.wrapping_add(1);
-        self.carry(alloc, &fields, body, n, moment)?;
+        self.expected = n.wrapping_add(1);
+        self.carry(alloc, fields, body, n, moment)?;
         if self.over {
             return Ok(());
         }
         self.carry_held(alloc, moment)
+    }
+
+    /// A message has another's name in this field.
+    fn turn_away(
+        &mut self,
+        alloc: Global,
+        fields: &Fields<'_>,
+        n: u32,
+        tag: u32,
+        moment: u64,
+    ) -> Result<(), NoMemory> {
+        self.reject(alloc, fields, n, tag, 9, moment)?;
+        if n == self.expected {
+            self.expected = n.wrapping_add(1);
+        }
+        self.send("35=5|", moment)?;
+        let cause = format!(in alloc; "CompId {{ tag: {tag} }}")?;
+        self.end(&cause)
     }
 
     fn log_on(&mut self, alloc: Global, fields: &Fields<'_>, moment: u64) -> Result<(), NoMemory> {
@@ -193,7 +212,7 @@ impl PlainSession {
         let e = self.expected;
         let text = format!(in alloc; "35=5|58=MsgSeqNum too low, expecting {e} but received {n}|")?;
         self.send(&text, moment)?;
-        let cause = format!(in alloc; "LowNumber {e} {n}")?;
+        let cause = format!(in alloc; "LowNumber {{ expected: {e}, got: {n} }}")?;
         self.end(&cause)
     }
 
@@ -279,17 +298,7 @@ impl PlainSession {
     ) -> Result<(), NoMemory> {
         match fields.first(35) {
             Some(b"0") | Some(b"3") | Some(b"A") => Ok(()),
-            Some(b"1") => match fields.first(112) {
-                None => self.reject(alloc, fields, n, 112, 1, moment),
-                Some(test) if test.len() > 256 => self.reject(alloc, fields, n, 112, 5, moment),
-                Some(test) => {
-                    let mut text = String::new(alloc);
-                    text.push_str("35=0|112=")?;
-                    put_bytes(&mut text, test)?;
-                    text.push_str("|")?;
-                    self.send(&text, moment)
-                }
-            },
+            Some(b"1") => self.answer_test(alloc, fields, n, moment),
             Some(b"2") => self.resend(alloc, fields, n, moment),
             Some(b"4") => {
                 self.moves(alloc, fields, n, n.wrapping_add(1), moment)?;
@@ -299,11 +308,30 @@ impl PlainSession {
                 self.send("35=5|", moment)?;
                 self.end("LoggedOut")
             }
-            _ => {
-                self.said.push_str("[accept ")?;
-                put_bytes(&mut self.said, body)?;
-                self.said.push_str("]")?;
-                Ok(())
+            _ => self.accept(alloc, body),
+        }
+    }
+
+    fn accept(&mut self, alloc: Global, body: &[u8]) -> Result<(), NoMemory> {
+        let body = legible(alloc, body)?;
+        write!(self.said, "[accept {body}]")?;
+        Ok(())
+    }
+
+    fn answer_test(
+        &mut self,
+        alloc: Global,
+        fields: &Fields<'_>,
+        n: u32,
+        moment: u64,
+    ) -> Result<(), NoMemory> {
+        match fields.first(112) {
+            None => self.reject(alloc, fields, n, 112, 1, moment),
+            Some(test) if test.len() > 256 => self.reject(alloc, fields, n, 112, 5, moment),
+            Some(test) => {
+                let test = legible(alloc, test)?;
+                let text = format!(in alloc; "35=0|112={test}|")?;
+                self.send(&text, moment)
             }
         }
     }
@@ -315,20 +343,12 @@ impl PlainSession {
         n: u32,
         moment: u64,
     ) -> Result<(), NoMemory> {
-        for tag in [7, 16] {
-            if fields.first(tag).is_none() {
-                return self.reject(alloc, fields, n, tag, 1, moment);
-            }
-        }
-        for tag in [7, 16] {
-            if !is_number(fields, tag) {
-                return self.reject(alloc, fields, n, tag, 6, moment);
-            }
+        if let Some((tag, reason)) = fault_of_request(fields) {
+            return self.reject(alloc, fields, n, tag, reason, moment);
         }
         let begin = number(fields, 7);
         let last = number(fields, 16);
-        let text = format!(in alloc; "[resend {begin} {last}]")?;
-        self.said.push_str(&text)?;
+        write!(self.said, "[resend {begin} {last}]")?;
         Ok(())
     }
 
@@ -369,17 +389,50 @@ impl PlainSession {
         reason: u8,
         moment: u64,
     ) -> Result<(), NoMemory> {
-        let mut text = format!(in alloc; "35=3|45={n}|371={tag}|")?;
-        if let Some(kind) = fields.first(35) {
-            if kind.len() < 33 {
-                text.push_str("372=")?;
-                put_bytes(&mut text, kind)?;
-                text.push_str("|")?;
-            }
-        }
-        let last = format!(in alloc; "373={reason}|")?;
-        text.push_str(&last)?;
+        let kind = named_kind(alloc, fields)?;
+        let text = format!(in alloc; "35=3|45={n}|371={tag}|{kind}373={reason}|")?;
         self.send(&text, moment)
+    }
+}
+
+/// The field of a ResendRequest that is missing, or else the one that is no number, and why it is rejected.
+fn fault_of_request(fields: &Fields<'_>) -> Option<(u32, u8)> {
+    for tag in [7, 16] {
+        if fields.first(tag).is_none() {
+            return Some((tag, 1));
+        }
+    }
+    first_without_number(fields)
+}
+
+fn first_without_number(fields: &Fields<'_>) -> Option<(u32, u8)> {
+    for tag in [7, 16] {
+        if !is_number(fields, tag) {
+            return Some((tag, 6));
+        }
+    }
+    None
+}
+
+/// The field that has another name than the session's.
+fn wrong_name(fields: &Fields<'_>) -> Option<u32> {
+    if !is(fields, 49, b"BUYER") {
+        return Some(49);
+    }
+    if !is(fields, 56, b"GATE") {
+        return Some(56);
+    }
+    None
+}
+
+/// The field that names the type of a message that is rejected, unless that is too long.
+fn named_kind(alloc: Global, fields: &Fields<'_>) -> Result<String, NoMemory> {
+    match fields.first(35) {
+        Some(kind) if kind.len() < 33 => {
+            let kind = legible(alloc, kind)?;
+            Ok(format!(in alloc; "372={kind}|")?)
+        }
+        _ => Ok(String::new(alloc)),
     }
 }
 

@@ -1,0 +1,5 @@
+use Rattle.std.proofs.Common.{◌≡◌}
+use Rattle.table_tests.proofs.settled.send_often.Given as goal
+
+abbrev pub invariant-loop : goal.invariant-loop
+invariant-loop l = l.library.leases ≡ l.initial.library.leases
