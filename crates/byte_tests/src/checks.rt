@@ -7,12 +7,16 @@ use std::fmt::Debug;
 use std::process::Abort;
 
 /// Holds that two values are the same.
-pub fn same<T: PartialEq + Debug>(rt: &impl Abort, got: &T, wanted: &T) {
+pub fn same<T: PartialEq + Debug>(rt: &impl Abort, got: &T, wanted: &T)
+    ensures { T.eq got.now wanted.now ≡ true }
+{
     assert_eq!(rt; got, wanted);
 }
 
 /// Holds that two values are the same, at a place that is told where they aren't.
-pub fn same_at<T: PartialEq + Debug, P: Debug>(rt: &impl Abort, got: &T, wanted: &T, place: &P) {
+pub fn same_at<T: PartialEq + Debug, P: Debug>(rt: &impl Abort, got: &T, wanted: &T, place: &P)
+    ensures { T.eq got.now wanted.now ≡ true }
+{
     assert_eq!(rt; got, wanted, "{place:?}");
 }
 

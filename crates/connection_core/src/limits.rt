@@ -1,3 +1,5 @@
+//! How much is read and written of a connection at once, and how much may wait.
+
 /// The most bytes that are read of a connection at once: a connection whose pieces were all handed out
 /// has room for them.
 pub const MOST_READ: usize = 4_096;

@@ -1,3 +1,5 @@
+//! What a connection leaves behind when it is over.
+
 use gate_io::Bytes;
 use session_core::Cause;
 

@@ -1,3 +1,5 @@
+//! Why a record isn't appended, and why a file isn't read back.
+
 ghost use Rattle.std.specs.Prelude.{◌≡◌};
 ghost use Rattle.durable_journal.specs.declared.errors.AppendError.TheVariants as append;
 ghost use Rattle.durable_journal.specs.declared.errors.RecoverError.TheVariants as recover;

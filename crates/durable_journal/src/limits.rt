@@ -1,3 +1,5 @@
+//! The limits of a journal's file and of what a record holds.
+
 /// The most bytes of a journal's file.
 pub const LONGEST_JOURNAL: u64 = 1_073_741_824;
 

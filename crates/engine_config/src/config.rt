@@ -1,3 +1,5 @@
+//! What an engine is configured with, and its limits.
+
 use gate_io::{Label, Rows};
 use session_core::Names;
 

@@ -1,3 +1,5 @@
+//! The engine, and what an operator can ask of it.
+
 ghost use Rattle.std.specs.Prelude.{◌≡◌, ◌<◌, length};
 ghost use Rattle.engine_loop.specs.Engines.{until_of};
 ghost use Rattle.lease_core.specs.State.{lease_of, state_of};

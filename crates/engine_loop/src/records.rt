@@ -1,3 +1,5 @@
+//! What a turn did, and what its first half found.
+
 use gate_io::{Accepted, Rows, WireGot};
 use library_desk::LibTurn;
 

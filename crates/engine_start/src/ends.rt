@@ -1,3 +1,5 @@
+//! What a library's thread is handed at the start.
+
 use lease_core::{Command, Notice};
 use lease_words::LibrarySeat;
 use ring_links::{Head, Tail};

@@ -1,3 +1,5 @@
+//! A body as it is written, field by field.
+
 ghost use Rattle.std.specs.Prelude.{◌≡◌, ◌<◌, ◌≤◌, [], ◌∷◌, ◌++◌, List, length, false, Ok, OnOk, OnErr};
 ghost use Rattle.fix_fields.specs.Field.{Field, no_field, has_soh};
 ghost use Rattle.fix_fields.specs.Pairs.{is_data_of};

@@ -1,3 +1,5 @@
+//! Days since 1970, and their dates.
+
 ghost use Rattle.std.specs.Prelude.{◌≡◌, ◌≤◌, IfSome};
 ghost use Rattle.fix_fields.specs.Calendar.{day_of_date};
 ghost use Rattle.fix_fields.specs.Stamp.{date_of_day};

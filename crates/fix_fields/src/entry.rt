@@ -1,3 +1,5 @@
+//! One field of a body: its tag and its value.
+
 ghost use Rattle.std.specs.Prelude.{◌≡◌};
 
 use std::marker::Model;

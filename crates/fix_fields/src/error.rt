@@ -1,3 +1,5 @@
+//! Why a body's fields can't be read.
+
 ghost use Rattle.std.specs.Prelude.{◌≡◌, Some};
 ghost use Rattle.fix_fields.specs.declared.error.FieldError.TheVariants.{OutOfMemory};
 ghost use Rattle.fix_fields.specs.Printed.{error_text};

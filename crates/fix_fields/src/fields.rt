@@ -1,3 +1,5 @@
+//! The fields of a body, read once and then looked up by tag.
+
 ghost use Rattle.std.specs.Prelude.{◌≡◌, ◌≢◌, ◌<◌, ◌↔◌, [], length, IsTrue, IfOk, OnOk, IfErr, slice_get, option_copied};
 
 use crate::entry::Entry;

@@ -1,3 +1,5 @@
+//! Which bodies an application may send.
+
 ghost use Rattle.std.specs.Prelude.{◌≡◌, ◌==◌, OnOk, IfErr};
 ghost use Rattle.std.specs.List.{list_any};
 ghost use Rattle.fix_frame.specs.Frame.{IsBody};

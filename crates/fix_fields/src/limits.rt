@@ -1,3 +1,5 @@
+//! The limits of bodies, names and tags.
+
 /// The most bytes of a body that an application may send. `check_body` doesn't look at the length.
 pub const LONGEST_APPLICATION_BODY: usize = 8_192;
 

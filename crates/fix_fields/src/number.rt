@@ -1,3 +1,5 @@
+//! The numbers in fields.
+
 ghost use Rattle.std.specs.Prelude.{◌≡◌};
 ghost use Rattle.fix_fields.specs.Number.{number_of};
 

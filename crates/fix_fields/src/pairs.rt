@@ -1,3 +1,5 @@
+//! Which length field says how long a data field is.
+
 ghost use Rattle.std.specs.Prelude.{◌≡◌};
 ghost use Rattle.fix_fields.specs.Pairs.{pair_of, data_tag_of, is_paired};
 

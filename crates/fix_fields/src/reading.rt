@@ -1,3 +1,5 @@
+//! One field read, at the beginning of what is left of a body.
+
 ghost use Rattle.std.specs.Prelude.{◌≡◌};
 ghost use Rattle.std.specs.Option.{option_and_then};
 ghost use Rattle.fix_fields.specs.Number.{number_of};

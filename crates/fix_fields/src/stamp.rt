@@ -1,3 +1,5 @@
+//! UTC timestamps, read and written.
+
 ghost use Rattle.std.specs.Prelude.{◌≡◌, ◌+◌, ◌%◌, ◌^◌, ◌≤◌, ◌<◌, length, IfSome};
 ghost use Rattle.fix_fields.specs.Stamp.{stamp_of, moment_of, day_in, second_in, fraction_in};
 

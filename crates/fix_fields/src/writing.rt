@@ -1,3 +1,5 @@
+//! One field written behind a text.
+
 ghost use Rattle.std.specs.Prelude.{◌≡◌, ◌<◌, ◌^◌, ◌++◌, length, OnOk, OnErr};
 ghost use Rattle.fix_fields.specs.Field.{field_text, tagged_text};
 

@@ -1,3 +1,5 @@
+//! The clock: the moment, in milliseconds since 1970, and the most that it may be.
+
 ghost use Rattle.std.specs.Prelude.{◌≡◌, ℕ, List, [], ◌∷◌, max};
 ghost use Rattle.gate_io.specs.Clock.{TakesReadings, greatest_of, last_of};
 ghost use Rattle.gate_io.specs.Counts.{HasRisen};

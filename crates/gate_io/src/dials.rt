@@ -1,3 +1,5 @@
+//! A wire that also dials: connections to counterparties that listen.
+
 ghost use Rattle.std.specs.Prelude.{◌≡◌, ◌+◌, ℕ, List};
 ghost use Rattle.gate_io.specs.Wire.{DoorGoesOn, LinkGoesOn, OthersStay, Dials, DialsAsPlanned};
 

@@ -1,3 +1,5 @@
+//! A source over a file of the system.
+
 ghost use Rattle.std.specs.Prelude.{◌≡◌, ◌≤◌, false, None, IfOk, length, string_bytes};
 ghost use Rattle.gate_io.specs.FileSource.{FileState};
 

@@ -1,3 +1,5 @@
+//! The gate: what a library asks before each of its calls.
+
 ghost use Rattle.std.specs.Prelude.{◌≡◌, Bool, true};
 
 /// What a library asks before each of its calls, so that a test can hold it back.

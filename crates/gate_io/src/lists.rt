@@ -1,3 +1,5 @@
+//! Lists in the fields of public types: a contract sees a list where the code has a vector or a string.
+
 ghost use Rattle.std.specs.Prelude.{◌≡◌, List, ℕ, string_bytes};
 
 use std::marker::Model;

@@ -1,3 +1,5 @@
+//! One connection of the wire in memory: what it brings, what it took, and its scripted failures.
+
 ghost use Rattle.std.specs.Prelude.{◌≡◌, ◌<◌, ◌≤◌, ℕ, None, Some, true, false, length, take, OnOk, OnErr};
 ghost use Rattle.gate_io.specs.MemWire.{LinkState, new_link, link_given, link_reserved, without_room, link_gives, link_after_read, link_plan_of, link_takes, link_after_write, shown};
 ghost use Rattle.gate_io.specs.Plan.{planned_count};

@@ -1,3 +1,5 @@
+//! A sink in memory, with scripted failures.
+
 ghost use Rattle.std.specs.Prelude.{◌≡◌, ◌<◌, ◌≤◌, ℕ, List, [], Some, IfOk, length, take};
 ghost use Rattle.gate_io.specs.Counts.{HasRisen};
 ghost use Rattle.gate_io.specs.Sink.{WroteWithin, TakesFrom};

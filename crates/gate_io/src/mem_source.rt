@@ -1,3 +1,5 @@
+//! A source in memory, cut as a script says.
+
 ghost use Rattle.std.specs.Prelude.{◌≡◌, ◌<◌, ◌≤◌, ℕ, List, [], Some, length, take, drop};
 ghost use Rattle.gate_io.specs.Counts.{HasRisen};
 ghost use Rattle.gate_io.specs.Source.{GotWithin, GivesFrom};

@@ -1,3 +1,5 @@
+//! The wire in memory: its connections, those that wait to be accepted, and those that it dials.
+
 ghost use Rattle.std.specs.Prelude.{◌≡◌, ◌<◌, ◌≤◌, ◌+◌, ℕ, [], ◌∷◌, ◌++◌, None, Some, true, false, map, length, OnOk, OnErr, IfOk};
 ghost use Rattle.gate_io.specs.Wire.{LinkGoesOn, OthersStay, IsOpen};
 ghost use Rattle.gate_io.specs.MemWire.{LinkState, WireState, ChangesLink, IsMade, new_link, new_wire, is_of_dial, link_given, link_reserved, link_gives, link_after_read, link_takes, link_after_write, link_at, door_of, wire_listens, wire_after_listen, wire_accepts, wire_after_accept, wire_dials, wire_after_dial, wire_reserved, state_at, with_link, without_room, SameButRoom};

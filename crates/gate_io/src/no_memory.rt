@@ -1,3 +1,5 @@
+//! The one error of a call that may want memory and nothing else.
+
 ghost use Rattle.gate_io.specs.declared.no_memory.NoMemory.TheVariants.{OutOfMemory};
 ghost use Rattle.std.specs.Prelude.{◌≡◌, Some, codes};
 

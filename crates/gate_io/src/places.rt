@@ -1,3 +1,5 @@
+//! A scripted place in what is written to a connection.
+
 ghost use Rattle.std.specs.Prelude.{◌≡◌, ◌≤◌, None, Some, if◌then◌else◌};
 ghost use Rattle.gate_io.specs.Plan.{count_before, is_reached, place_after};
 

@@ -1,3 +1,5 @@
+//! A clock over the system's, which never goes back.
+
 ghost use Rattle.std.specs.Prelude.{◌≡◌, ◌<◌, ◌≤◌, ◌^◌, ℕ, max};
 ghost use Rattle.gate_io.specs.Clock.{HasFigures, TakesReadings, greatest_of, last_of};
 ghost use Rattle.gate_io.specs.Counts.{HasRisen};

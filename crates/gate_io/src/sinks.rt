@@ -1,3 +1,5 @@
+//! The sink: where bytes are written to, as much at a time as it takes.
+
 ghost use Rattle.std.specs.Prelude.{◌≡◌, ◌<◌, ◌≤◌, ℕ, List, Option, length};
 ghost use Rattle.gate_io.specs.Counts.{HasRisen};
 ghost use Rattle.gate_io.specs.Sink.{WroteWithin, TakesFrom};

@@ -1,3 +1,5 @@
+//! The source: where bytes are read from, some at a time.
+
 ghost use Rattle.std.specs.Prelude.{◌≡◌, ◌<◌, ◌≤◌, ℕ, List, Option, length};
 ghost use Rattle.gate_io.specs.Counts.{HasRisen};
 ghost use Rattle.gate_io.specs.Source.{GotWithin, GivesFrom};

@@ -1,3 +1,5 @@
+//! A sink over the standard output.
+
 ghost use Rattle.std.specs.Prelude.{◌≡◌, None};
 
 use crate::sinks::{Sink, Wrote};

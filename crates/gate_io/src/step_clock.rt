@@ -1,3 +1,5 @@
+//! A clock that stands until it is set.
+
 ghost use Rattle.std.specs.Prelude.{◌≡◌, ◌<◌, ◌≤◌, ℕ, max};
 ghost use Rattle.gate_io.specs.Clock.{HasFigures, TakesReadings, greatest_of, last_of};
 ghost use Rattle.gate_io.specs.Counts.{HasRisen};

@@ -1,3 +1,5 @@
+//! A whole source read, and bytes written to a sink to their end.
+
 ghost use Rattle.std.specs.Prelude.{◌≡◌, ◌≤◌, [], Some, IfOk, IfSome, OnOk, OnErr, IsErrOf, codes, vec_len};
 ghost use Rattle.gate_io.specs.Counts.{HasRisen};
 ghost use Rattle.gate_io.specs.Printed.{text_of};

@@ -1,3 +1,5 @@
+//! The wire: the connections of a run, each named by its number, and what a call on one can come to.
+
 ghost use Rattle.std.specs.Prelude.{◌≡◌, ◌<◌, ◌≤◌, ℕ, List, Option, length, true};
 ghost use Rattle.gate_io.specs.Wire.{Link, Door, LinkGoesOn, DoorGoesOn, OthersStay, IsOpen, WireGotWithin, WireGivesFrom, ReadHasCause, ReadsAsPlanned, WireWroteWithin, WireTakesFrom, WriteHasCause, WritesAsPlanned, Accepts, AcceptsAsPlanned, Listens};
 

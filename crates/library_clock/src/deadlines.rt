@@ -1,3 +1,5 @@
+//! Which session is due: at most one deadline a session.
+
 ghost use Rattle.std.specs.Prelude.{◌≡◌, ◌≢◌, ℕ, ◌<◌, ◌≤◌, ◌&&◌, ◌||◌, not, true, false, IfOk, IsTrue, OnOk, OnErr, IfSome, IfNone, IsOk, None, length, replicate, slice_set, position};
 ghost use Rattle.std.specs.BTreeSet.{contains};
 ghost use Rattle.library_clock.specs.Times.{is_due, deadline_of, is_pair_of, pair_cmp};

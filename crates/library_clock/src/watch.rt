@@ -1,3 +1,5 @@
+//! Which library fell silent: the last beat of each, and since when it stands.
+
 ghost use Rattle.std.specs.Prelude.{◌≡◌, ◌≢◌, ℕ, ◌+◌, ◌-◌, ◌≤◌, ◌↔◌, IfOk, IfSome, IsSome, length, replicate, slice_set};
 ghost use Rattle.library_clock.specs.Watched.{kept_of, kept_after};
 

@@ -1,3 +1,5 @@
+//! One numbered message, as the outbound log keeps it.
+
 use gate_io::Bytes;
 
 /// A message that was numbered.

@@ -1,3 +1,5 @@
+//! What waits to be written, and the limits of what stands before a body.
+
 use gate_io::Bytes;
 
 /// The most bytes of a header beside the type field and the values of the CompIDs: their tags, the

@@ -1,3 +1,5 @@
+//! The calls of a number line as data, carried out in order.
+
 ghost use Rattle.std.specs.Prelude.{◌≡◌, ℕ, IfOk, OnOk, OnErr, take, drop};
 ghost use Rattle.seq_gaps.specs.Calls.{IsAllowed, AreAllowed, line_after, line_after_all, answer_to, answers_to, IsPlainRun, AreFirstOffers, items_handed_on};
 

@@ -1,3 +1,5 @@
+//! The number line: what is expected next, what is held, and which gap was named.
+
 ghost use Rattle.std.specs.Prelude.{◌≡◌, ℕ, ◌+◌, ◌<◌, ◌≤◌, ◌↔◌, ◌⊎◌, IfOk, IsSome, IsNone, Option, None, Some};
 ghost use Rattle.std.specs.FinMap as map;
 ghost use Rattle.seq_gaps.specs.Line.{IsNumber, IsLine, IsHeld, IsNotHeld, fresh_line, after_fill, after_taking, after_clear};

@@ -1,3 +1,5 @@
+//! Where an offered item stands, and the limits of numbers and of held items.
+
 /// The largest MsgSeqNum of a message. The expected number is at most one more.
 pub const MAX_NUMBER: u32 = 999_999_999;
 

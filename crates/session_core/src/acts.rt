@@ -1,3 +1,5 @@
+//! What the session machine answers: acts, in order, and the cause of an end.
+
 ghost use Rattle.std.specs.Prelude.{◌≡◌};
 ghost use Rattle.session_core.specs.Admin.{is_session_entry};
 

@@ -1,3 +1,5 @@
+//! The causes by which a connection ends.
+
 /// Why a connection ended.
 #[derive(Clone, Copy, Debug, PartialEq, Eq)]
 pub enum Cause {

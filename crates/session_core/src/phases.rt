@@ -1,3 +1,5 @@
+//! How far the Logons of a bound connection have come.
+
 /// How far the Logons of a connection that stands have come.
 #[derive(Clone, Copy, Debug, PartialEq, Eq)]
 pub(crate) enum Phase {

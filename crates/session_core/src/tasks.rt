@@ -1,3 +1,5 @@
+//! What is left to do for a message on its number.
+
 use crate::acts::Act;
 
 /// What is left to do for a message on its number.

@@ -1,3 +1,5 @@
+//! What the clock comes to, and how long an answer is waited for.
+
 /// How long a session that dialled waits for the answer to its Logon, in milliseconds.
 pub const ANSWER_WAIT: u64 = 10_000;
 

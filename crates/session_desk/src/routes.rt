@@ -1,3 +1,5 @@
+//! The names of all sessions, by which a first message is routed.
+
 use session_core::Names;
 
 /// The names of the sessions that accept connections, in order, and which session each belongs to.

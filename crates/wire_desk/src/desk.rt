@@ -1,3 +1,5 @@
+//! The connections at the wire, in the order in which they came.
+
 ghost use Rattle.std.specs.Prelude.{◌≡◌, ◌<◌, length, slice_index_or};
 ghost use Rattle.wire_desk.specs.Places.{open_places};
 

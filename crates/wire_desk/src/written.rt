@@ -1,3 +1,5 @@
+//! How a connection's writing of a turn came to its end.
+
 /// Why a connection was written to no further in a turn.
 #[derive(Clone, Copy, Debug, PartialEq, Eq)]
 pub enum Stop {

@@ -1,3 +1,5 @@
+//! How often each answer came.
+
 ghost use Rattle.std.specs.Prelude.{◌≡◌, true};
 ghost use Rattle.gate_io.specs.Wire.{LinkGoesOn};
 ghost use Rattle.wire_edge.specs.NetWire.{new_link, link_after_read, link_after_write, shown};

@@ -1,3 +1,5 @@
+//! The wire over TCP.
+
 ghost use Rattle.std.specs.Prelude.{◌≡◌, ◌<◌, ◌≤◌, ◌+◌, ℕ, None, true, length};
 ghost use Rattle.gate_io.specs.Wire.{LinkGoesOn, OthersStay, IsOpen};
 ghost use Rattle.wire_edge.specs.NetWire.{NetState, ChangesLink, new_wire, is_of_dial, link_at, state_at, door_of, link_after_read, link_after_write, wire_after_listen, wire_after_accept, wire_after_dial};

@@ -1,3 +1,5 @@
+//! How many pauses in a row poll without waiting.
+
 ghost use Rattle.std.specs.Prelude.{◌≡◌, ◌+◌, if◌then◌else◌, nat_lt};
 
 /// How many pauses in a row, without a byte that moved, poll without waiting. The pauses behind them wait.

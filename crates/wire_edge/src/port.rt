@@ -1,3 +1,5 @@
+//! One socket: its bytes in and out, and its end.
+
 ghost use Rattle.std.specs.Prelude.{◌<◌, length};
 ghost use Rattle.gate_io.specs.Wire.{WireGotWithin, WireWroteWithin};
 

@@ -1,3 +1,5 @@
+//! The sockets of a run, by their connections' numbers.
+
 ghost use Rattle.std.specs.Prelude.{length};
 ghost use Rattle.gate_io.specs.Wire.{WireGotWithin, WireWroteWithin};
 

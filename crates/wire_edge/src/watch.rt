@@ -1,3 +1,5 @@
+//! When the system is asked which sockets are ready, and what it said.
+
 use crate::port::Port;
 use gate_io::{FIRST_DIALLED, MOST_DIALLED};
 use mio::net::{TcpListener, TcpStream};
