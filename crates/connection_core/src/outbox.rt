@@ -12,7 +12,7 @@ ghost use Rattle.connection_core.specs.Items.{AreItemsOf};
 use fix_frame::{FrameError, put_frame};
 use gate_io::{Bytes, NoMemory};
 use message_log::OutLog;
-use resend_plan::{Names2, WireItem, fill_wire_body};
+use resend_plan::{KeptStamp, Names2, WireItem, fill_wire_body};
 use std::alloc::Global;
 use std::collections::VecDeque;
 use std::marker::Model;
@@ -30,6 +30,8 @@ pub struct Outbox {
     unmade: VecDeque<WireItem>,
     /// The body of the item whose text was made last. It is kept for its room.
     body: Vec<u8>,
+    /// The text of the moment of the last one.
+    stamp: KeptStamp,
 }
 
 impl Model for Outbox {
@@ -58,6 +60,7 @@ impl Outbox {
             ends: VecDeque::new(alloc),
             unmade: VecDeque::new(alloc),
             body: Vec::new(alloc),
+            stamp: KeptStamp::new(),
         }
     }
 
@@ -169,7 +172,14 @@ impl Outbox {
     {
         let item = *self.unmade.front().unwrap();
         self.ends.reserve(1)?;
-        put_text(&mut self.text, &mut self.body, &item, log, names)?;
+        put_text(
+            &mut self.text,
+            &mut self.body,
+            &mut self.stamp,
+            &item,
+            log,
+            names,
+        )?;
         self.ends.push_back_reserved(self.text.len());
         self.unmade.pop_front();
         Ok(())
@@ -221,6 +231,7 @@ fn drop_ends(ends: &mut VecDeque<usize>, written: usize)
 fn put_text(
     text: &mut Vec<u8>,
     body: &mut Vec<u8>,
+    stamp: &mut KeptStamp,
     item: &WireItem,
     log: &OutLog,
     names: &Names2,
@@ -231,7 +242,7 @@ fn put_text(
     ensures ok { OnOk result (text.new.items ≡ text.old.items ++ item_text names.now log.now.series item.now) }
     ensures err { OnErr result (text.new.items ≡ text.old.items) }
 {
-    fill_wire_body(body, item, log, names)?;
+    fill_wire_body(body, stamp, item, log, names)?;
     match put_frame(text, body) {
         Ok(()) => Ok(()),
         Err(FrameError::OutOfMemory) => Err(NoMemory::OutOfMemory),

@@ -7,9 +7,10 @@ ghost use Rattle.resend_plan.specs.Fit.{AreShort, HasFitBodies, HasFrameBody, Ha
 ghost use Rattle.resend_plan.specs.Wire.{NamesEntry, body_of, type_field, behind_type, times, stamp, header, message, reset_type, field_of};
 
 use crate::item::{Names2, WireItem};
-use fix_fields::{put_field, stamp_text};
+use crate::stamps::KeptStamp;
+use fix_fields::{put_field, put_tagged};
 use fix_frame::LONGEST_FRAME;
-use gate_io::{LAST_MOMENT, NoMemory};
+use gate_io::NoMemory;
 use itoa::Buffer;
 use message_log::{OutEntry, OutLog};
 use std::alloc::Global;
@@ -36,7 +37,8 @@ pub fn wire_body(
         → IfOk result (λ body. IsBody body.items × (length (frame_of body.items) ≤ LONGEST_FRAME)) }
 {
     let mut body = Vec::with_capacity(alloc, ROOM)?;
-    fill_item_body(&mut body, item, log, names)?;
+    let mut kept = KeptStamp::new();
+    fill_item_body(&mut body, &mut kept, item, log, names)?;
     Ok(body)
 }
 
@@ -44,6 +46,7 @@ pub fn wire_body(
 /// memory it may hold anything.
 pub fn fill_wire_body(
     body: &mut Vec<u8>,
+    kept: &mut KeptStamp,
     item: &WireItem,
     log: &OutLog,
     names: &Names2,
@@ -54,11 +57,12 @@ pub fn fill_wire_body(
     ensures frame { AreShort names.now → HasFitBodies log.now.series
         → OnOk result (IsBody body.new.items × (length (frame_of body.new.items) ≤ LONGEST_FRAME)) }
 {
-    fill_item_body(body, item, log, names)
+    fill_item_body(body, kept, item, log, names)
 }
 
 fn fill_item_body(
     body: &mut Vec<u8>,
+    kept: &mut KeptStamp,
     item: &WireItem,
     log: &OutLog,
     names: &Names2,
@@ -70,18 +74,21 @@ fn fill_item_body(
     match *item {
         WireItem::New { series, number } => {
             let entry = log.entry(series, number).unwrap();
-            fill_entry_body(body, names, entry, number, entry.at, None)
+            fill_entry_body(body, kept, names, entry, number, entry.at, None)
         }
         WireItem::Again { series, number, at } => {
             let entry = log.entry(series, number).unwrap();
-            fill_entry_body(body, names, entry, number, at, Some(entry.at))
+            fill_entry_body(body, kept, names, entry, number, at, Some(entry.at))
         }
-        WireItem::GapFill { number, to, at, .. } => fill_reset_body(body, names, number, to, at),
+        WireItem::GapFill { number, to, at, .. } => fill_reset_body(
+            body, kept, names, number, to, at,
+        ),
     }
 }
 
 fn fill_entry_body(
     body: &mut Vec<u8>,
+    kept: &mut KeptStamp,
     names: &Names2,
     entry: &OutEntry,
     number: u64,
@@ -93,7 +100,7 @@ fn fill_entry_body(
 {
     let (kind, rest) = split_type(entry.body.as_slice());
     fill_header(body, names, kind, number)?;
-    push_times(body, at, original)?;
+    push_times(body, kept, at, original)?;
     body.extend_from_slice(rest)?;
     Ok(())
 }
@@ -101,6 +108,7 @@ fn fill_entry_body(
 /// A SequenceReset that fills a gap, from a number on and up to the next number behind it.
 fn fill_reset_body(
     body: &mut Vec<u8>,
+    kept: &mut KeptStamp,
     names: &Names2,
     number: u64,
     to: u64,
@@ -111,7 +119,7 @@ fn fill_reset_body(
 {
     let mut digits = Buffer::new();
     fill_header(body, names, b"35=4\x01", number)?;
-    push_times(body, at, Some(at))?;
+    push_times(body, kept, at, Some(at))?;
     put_field(body, 123, b"Y")?;
     put_field(body, 36, digits.format(to).as_bytes())?;
     Ok(())
@@ -125,32 +133,36 @@ fn fill_header(body: &mut Vec<u8>, names: &Names2, kind: &[u8], number: u64) -> 
     let mut digits = Buffer::new();
     body.clear();
     body.extend_from_slice(kind)?;
-    put_field(body, 49, names.us.as_slice())?;
-    put_field(body, 56, names.them.as_slice())?;
-    put_field(body, 34, digits.format(number).as_bytes())?;
+    put_tagged(body, b"49", names.us.as_slice())?;
+    put_tagged(body, b"56", names.them.as_slice())?;
+    put_tagged(body, b"34", digits.format(number).as_bytes())?;
     Ok(())
 }
 
 /// The moment of sending, and for what is sent again the mark of that and the first one.
 #[tactic(auto, unfolding(crate::specs::Wire::times))]
-fn push_times(body: &mut Vec<u8>, at: u64, original: Option<u64>) -> Result<(), NoMemory>
+fn push_times(
+    body: &mut Vec<u8>,
+    kept: &mut KeptStamp,
+    at: u64,
+    original: Option<u64>,
+) -> Result<(), NoMemory>
     ensures { OnOk result (body.new.items ≡ body.old.items ++ times at original) }
 {
     match original {
-        None => push_stamp(body, 52, at),
+        None => put_sending_time(body, kept, at),
         Some(original) => {
             put_field(body, 43, b"Y")?;
-            push_stamp(body, 52, at)?;
-            push_stamp(body, 122, original)
+            put_sending_time(body, kept, at)?;
+            put_field(body, 122, &kept.at(original))
         }
     }
 }
 
-#[tactic(auto, unfolding(crate::specs::Wire::stamp))]
-fn push_stamp(body: &mut Vec<u8>, tag: u32, at: u64) -> Result<(), NoMemory>
-    ensures { OnOk result (body.new.items ≡ body.old.items ++ field_of tag (stamp at)) }
+fn put_sending_time(body: &mut Vec<u8>, kept: &mut KeptStamp, at: u64) -> Result<(), NoMemory>
+    ensures { OnOk result (body.new.items ≡ body.old.items ++ field_of 52 (stamp at)) }
 {
-    put_field(body, tag, &stamp_text(at.min(LAST_MOMENT)))
+    put_tagged(body, b"52", &kept.at(at))
 }
 
 /// A body up to the end of its first field, which is its type, and what lies behind.
