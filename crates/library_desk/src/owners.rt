@@ -1,7 +1,7 @@
 //! Which library has each session, looked up at once.
 
-ghost use Rattle.std.specs.Prelude.{◌≡◌, ◌<◌, ◌≤◌, length, slice_index_or};
-ghost use Rattle.library_desk.specs.Owners.{AreOwners};
+ghost use Rattle.std.specs.Prelude.{◌≡◌, ◌<◌, ◌≤◌, length, slice_index_or, IfNone, IfSome};
+ghost use Rattle.library_desk.specs.Owners.{AreOwners, HasNone};
 
 use session_core::MOST_SESSIONS;
 use std::marker::Model;
@@ -36,11 +36,18 @@ impl Owners {
         Owners { owners }
     }
 
-    /// The library that has a session, or 0 for the engine.
-    pub fn owner(&self, s: usize) -> u8
-        requires { s < MOST_SESSIONS }
-        ensures { result ≡ slice_index_or self.now s 0 }
+    /// The first session from one on, of so many, that a library has.
+    pub fn next(&self, library: u8, from: usize, sessions: usize) -> Option<usize>
+        requires { sessions ≤ MOST_SESSIONS }
+        ensures found { IfSome result (λ s. (from ≤ s) × (s < sessions) × (slice_index_or self.now s 0 ≡ library)) }
+        ensures first { IfSome result (λ s. HasNone library from s self.now) }
+        ensures none { IfNone result (HasNone library from sessions self.now) }
     {
-        self.owners[s]
+        for s in from..sessions {
+            if self.owners[s] == library {
+                return Some(s);
+            }
+        }
+        None
     }
 }

@@ -1,7 +1,7 @@
 //! The messages of the sessions that a library has.
 
 ghost use Rattle.std.specs.Prelude.{◌≡◌, ◌≤◌, ◌<◌, length, OnOk};
-ghost use Rattle.lease_desk.specs.Desk.{InTurn};
+ghost use Rattle.lease_desk.specs.Desk.{InTurn, owner_at};
 ghost use Rattle.library_desk.specs.Owners.{AreOwners};
 ghost use Rattle.library_desk.specs.Serving.{IsLinked, IsInOrder, PumpsTo};
 
@@ -30,34 +30,33 @@ impl LibraryDesk {
         ensures linked { IsLinked shared.now self.new }
         ensures ready { IsInOrder self.new }
     {
-        for s in 0..self.desk.board.sessions() {
-            self.pump_to(alloc, shared, owners, library, s)?;
+        let sessions = self.desk.board.sessions();
+        let mut from = 0;
+        while let Some(s) = owners.next(library, from, sessions) {
+            self.pump_to(alloc, shared, library, s)?;
+            from = s + 1;
         }
         Ok(())
     }
 
-    // Pumps a session where this library has it.
+    // Pumps a session that this library has.
     fn pump_to(
         &mut self,
         alloc: Global,
         shared: &Shared,
-        owners: &Owners,
         library: u8,
         s: usize,
     ) -> Result<(), NoMemory>
         requires linked { IsLinked shared.now self.old }
         requires library { (1 ≤ library) × (library ≤ length self.old.ends.items) }
         requires session { s < length self.old.desk.board.sessions }
+        requires owner { owner_at self.old.desk.board s ≡ library }
         requires ready { IsInOrder self.old }
-        requires owners { AreOwners self.old.desk.board owners.now }
         ensures pumps { OnOk result (PumpsTo library s self.old self.new) }
         ensures desk { self.new.desk ≡ self.old.desk }
         ensures linked { IsLinked shared.now self.new }
         ensures ready { IsInOrder self.new }
     {
-        if owners.owner(s) != library {
-            return Ok(());
-        }
         let session = self.desk.board.session(s);
         let place = usize::from(library - 1);
         pump(

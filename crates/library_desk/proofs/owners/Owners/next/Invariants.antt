@@ -1,0 +1,6 @@
+use Rattle.std.proofs.Common.{◌≡◌, ◌≤◌}
+use Rattle.library_desk.specs.Owners.{HasNone}
+use Rattle.library_desk.proofs.owners.Owners.next.Given as goal
+
+abbrev pub invariant-loop-s : goal.invariant-loop-s
+invariant-loop-s l = HasNone l.library l.from l.s l.self
