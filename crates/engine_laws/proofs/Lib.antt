@@ -1,8 +1,10 @@
+pub mod library_lemmas
+mod text_lemmas
 mod Accounting
 mod Changed
 mod Connections
 mod Happened
-mod Libraries
+mod LibrarySteps
 mod Lines
 mod Sessions
 mod Standing

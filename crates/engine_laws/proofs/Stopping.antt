@@ -4,7 +4,7 @@ use Rattle.std.specs.Prelude.{◌⊎◌, slice_index_or}
 use Rattle.engine_laws.specs.Account.{Progress, all_done, cutting, handling, only}
 use Rattle.engine_laws.specs.Turns.{board_of}
 use Rattle.engine_laws.proofs.Accounting.{Keeping, StepLaws, each_in_turn}
-use Rattle.engine_laws.proofs.Libraries.{answered, expired, some_taken_back}
+use Rattle.engine_laws.proofs.LibrarySteps.{answered, expired, some_taken_back}
 use Rattle.engine_laws.proofs.Lines.{read_as, some_handled, written_in_turn}
 use Rattle.engine_laws.proofs.Sessions.{bound_by, gathered, itself, lapsed}
 use Rattle.engine_laws.proofs.Turns.{EngineKeeps, engine_in_turn, next_accepted, one_read, one_served, session_dialled, session_published, session_ticked, stays_itself, step_further, steps_taken}

@@ -4,7 +4,7 @@ use Rattle.std.specs.Prelude.{slice_index_or}
 use Rattle.engine_laws.specs.Account.{IsAccountedFor, KeepsAccount, all_done}
 use Rattle.engine_laws.specs.Turns.{EngineStaysAccountedFor, board_of}
 use Rattle.engine_laws.proofs.Accounting.{AccountLaws, Keeping, StepLaws, each_in_turn}
-use Rattle.engine_laws.proofs.Libraries.{served}
+use Rattle.engine_laws.proofs.LibrarySteps.{served}
 use Rattle.engine_laws.proofs.Lines.{accepted_as, dialled_as, read, written_in_turn}
 use Rattle.engine_laws.proofs.Sessions.{ticked}
 use Rattle.engine_loop.specs.Engines.{until_of}

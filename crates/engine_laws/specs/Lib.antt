@@ -1,3 +1,5 @@
+pub mod libraries
+pub mod texts
 pub mod Account
 pub mod Stopped
 pub mod Turns

@@ -7,7 +7,9 @@ use Rattle.engine_config.specs.Config.{dial_of, names_of}
 use Rattle.engine_config.specs.declared.config.Config.{Config}
 use Rattle.engine_end.specs.Room.{Room}
 use Rattle.engine_loop.specs.declared.engine.Engine.{Engine}
+use Rattle.engine_start.specs.Starts.{StartsDesk, StartsEngine, StartsSessions, StartsTable}
 use Rattle.library_desk.specs.declared.desk.LibraryDesk.{LibraryDesk}
+use Rattle.library_desk.specs.declared.shared.Shared.{Shared}
 use Rattle.session_desk.specs.Steps.{nothing_noted}
 use Rattle.session_desk.specs.declared.routes.Routes.{Routes}
 use Rattle.wire_desk.specs.declared.desk.WireDesk.{WireDesk}
@@ -64,3 +66,14 @@ pub record StartsFigures (config : Config) (at : ℕ) (e : Engine) : Type 0 wher
   pub moment : e.moment ≡ at
   pub spare : e.spare ≡ room_of config
   pub failed : e.failed ≡ false
+
+-- an engine as it begins
+pub record StartsEngineOf (config : Config) (moment : ℕ) (shared : Shared) (engine : Engine) : Type 0 where
+  pub sessions : StartsSessions config (library_desk_of engine).desk.board
+  pub table : StartsTable config shared
+  pub desk : StartsDesk config moment shared (library_desk_of engine)
+  pub ends : StartsEngine config shared (library_desk_of engine).ends.items
+  pub routes : StartsRoutes config (length config.names) (wire_desk_of engine).routes
+  pub lines : StartsLines config (wire_desk_of engine)
+  pub dials : StartsDials config (dialler_of engine)
+  pub figures : StartsFigures config moment engine

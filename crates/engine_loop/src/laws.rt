@@ -1,7 +1,11 @@
 //! Laws of the definitions. Each is the contract of a function that does nothing.
 
-ghost use Rattle.std.specs.Prelude.{◌≡◌, ◌<◌, ℕ, List, length};
-ghost use Rattle.engine_loop.specs.Engines.{IsAtWork, IsEngine, IsOnline};
+ghost use Rattle.std.specs.Prelude.{◌≡◌, ◌<◌, ℕ, List, [], false, length, true};
+ghost use Rattle.engine_end.specs.Finishing.{Finishes, FinishesShort};
+ghost use Rattle.engine_end.specs.Records.{IsLeftBy};
+ghost use Rattle.engine_end.specs.declared.records.EngineRecord.{EngineRecord};
+ghost use Rattle.engine_loop.specs.Engines.{IsAtWork, IsEngine, IsOnline, until_of};
+ghost use Rattle.engine_loop.specs.Leaving.{LeavesAsItStood};
 ghost use Rattle.engine_loop.specs.Turns.{AtWire, GivesTurn};
 ghost use Rattle.engine_loop.specs.declared.engine.Engine.{Engine};
 ghost use Rattle.engine_loop.specs.declared.records.Taken.{Taken};
@@ -9,6 +13,7 @@ ghost use Rattle.engine_loop.specs.declared.records.Turn.{Turn};
 ghost use Rattle.gate_io.specs.Wire.{Door, Link};
 ghost use Rattle.lease_core.specs.declared.entry.Entry.{Entry};
 ghost use Rattle.lease_desk.specs.Desk.{GoesOn};
+ghost use Rattle.lease_words.specs.Views.{LibraryView};
 ghost use Rattle.library_desk.specs.declared.shared.Shared.{Shared};
 ghost use Rattle.session_desk.specs.Steps.{AreNoted};
 ghost use Rattle.switchboard.specs.Board.{connection_at};
@@ -50,3 +55,13 @@ pub fn gives_begin_texts()
 {
     writes_begin_texts();
 }
+
+/// What an engine leaves at its end is what one leaves for which memory was wanting.
+pub fn engines_leave_as_they_stood()
+    // Where memory was wanting at its end, or in a turn before.
+    ensures short { (seats : List LibraryView) (engine : Engine) (left : EngineRecord) → (engine.failed ≡ true → IsLeftBy engine.sessions.desk.board engine.sessions.strays.items engine.accepted [] left)
+        → (engine.failed ≡ false → FinishesShort seats engine.accepted engine.moment (until_of engine) engine.sessions left) → LeavesAsItStood seats engine left }
+    // Where it wasn't.
+    ensures whole { (seats : List LibraryView) (engine : Engine) (left : EngineRecord) → (engine.failed ≡ true → ⊥) → Finishes seats engine.lines.unkept.items engine.accepted engine.moment (until_of engine) engine.sessions left
+        → LeavesAsItStood seats engine left }
+{}

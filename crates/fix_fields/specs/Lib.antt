@@ -12,3 +12,4 @@ pub mod Pairs
 pub mod Printed
 pub mod Reading
 pub mod Stamp
+pub use Rattle.fix_frame.specs.Frame

@@ -6,8 +6,7 @@ mod yielding;
 
 use crate::yielding::YieldingGate;
 use gate_io::{FileSource, RealClock, StdSink};
-use gateway_program::{end, run, script_to_serve, words_of};
-use gateway_run::serve;
+use gateway_run::{end, run, script_to_serve, serve, words_of};
 use std::process::ExitCode;
 use wire_edge::NetWire;
 

@@ -13,9 +13,9 @@ use Rattle.gateway_run.specs.declared.statuses.Status.{Status}
 use Rattle.gateway_run.specs.declared.statuses.Status.TheVariants as status
 use Rattle.headline.specs.InPart.{HeadlineInPart}
 use Rattle.run_report.specs.declared.records.RunRecord.{RunRecord}
-use Rattle.script_run.specs.Stops.{no_run}
+use Rattle.run_report.specs.Records.{no_run}
 use Rattle.script_text.specs.declared.steps.Script.{Script}
-use Rattle.serve_laws.specs.Served.{AnyReadings}
+use Rattle.headline.specs.serving.Served.{AnyReadings}
 use Rattle.serve_run.specs.Serves.{Serves}
 use Rattle.serve_run.specs.Stops.{ServesInPart}
 

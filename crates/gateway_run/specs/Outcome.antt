@@ -16,12 +16,13 @@ use Rattle.headline.specs.Headline.{Headline}
 use Rattle.headline.specs.InPart.{HeadlineInPart}
 use Rattle.lease_core.specs.Holdings.{AreAdjoining, holdings_of}
 use Rattle.lease_core.specs.State.{state_of}
-use Rattle.run_laws.specs.Records.{IsAccountedRecord}
+use Rattle.headline.specs.runs.Records.{IsAccountedRecord}
 use Rattle.run_report.specs.Report.{report_of}
 use Rattle.run_report.specs.Summary.{summary_of}
 use Rattle.run_report.specs.declared.records.RunRecord.{RunRecord}
 use Rattle.script_run.specs.Means.{Means}
-use Rattle.script_run.specs.Stops.{MeansInPart, no_run}
+use Rattle.run_report.specs.Records.{no_run}
+use Rattle.script_run.specs.Stops.{MeansInPart}
 use Rattle.script_text.specs.Meaning.{script_of}
 use Rattle.session_book.specs.declared.reads.SessionRecord.{SessionRecord}
 use Rattle.script_text.specs.declared.kinds.ScriptError.TheVariants.{Fault}

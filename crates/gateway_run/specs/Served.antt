@@ -1,7 +1,7 @@
 -- How serving ends.
 use Rattle.std.specs.Prelude.{◌≡◌, ◌⊎◌, ℕ, Bool, List, Option, None, Some}
 use Rattle.std.specs.List.{All}
-use Rattle.clock_laws.specs.Kept.{KeepsTime}
+use Rattle.headline.specs.clock.Kept.{KeepsTime}
 use Rattle.engine_end.specs.Records.{HasLawfulJournal}
 use Rattle.gate_io.specs.Sink.{HasTaken, HasTakenPrefix}
 use Rattle.gate_io.specs.Wire.{Door, Link}
@@ -14,7 +14,7 @@ use Rattle.headline.specs.Headline.{Headline}
 use Rattle.headline.specs.InPart.{HeadlineInPart}
 use Rattle.run_report.specs.declared.records.RunRecord.{RunRecord}
 use Rattle.script_text.specs.declared.steps.Script.{Script}
-use Rattle.script_run.specs.Stops.{no_run}
+use Rattle.run_report.specs.Records.{no_run}
 use Rattle.serve_run.specs.Serves.{Serves}
 use Rattle.serve_run.specs.Stops.{ServesInPart}
 

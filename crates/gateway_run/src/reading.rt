@@ -5,7 +5,7 @@ ghost use Rattle.std.specs.List.{All};
 ghost use Rattle.engine_end.specs.Records.{HasLawfulJournal};
 ghost use Rattle.gate_io.specs.Source.{GaveWithin, IsAllOf};
 ghost use Rattle.gateway_run.specs.Outcome.{IsTextOf, RefusesSource};
-ghost use Rattle.script_run.specs.Stops.{no_run};
+ghost use Rattle.run_report.specs.Records.{no_run};
 ghost use Rattle.script_text.specs.Lawful.{IsLawful};
 
 use crate::statuses::Status;

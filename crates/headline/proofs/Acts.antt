@@ -18,7 +18,7 @@ use Rattle.lease_core.specs.State.{state_of}
 use Rattle.lease_core.specs.declared.entry.Entry.{Entry}
 use Rattle.lease_core.specs.declared.record.Record.{Record}
 use Rattle.library_desk.specs.declared.desk.Stray.{Stray}
-use Rattle.run_laws.specs.Accounted.{first_machines, no_entries}
+use Rattle.headline.specs.runs.Accounted.{first_machines, no_entries}
 use Rattle.run_report.specs.declared.records.RunRecord.{RunRecord}
 use Rattle.session_book.specs.Moments.{TimedRuns}
 use Rattle.session_book.specs.Runs.{Handled, IsInside, TellRuns, handled_of}

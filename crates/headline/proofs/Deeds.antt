@@ -18,11 +18,11 @@ use Rattle.lease_core.specs.declared.entry.Entry.TheVariants.{Admin, Arrive, Bin
 use Rattle.lease_core.specs.declared.lease.Deed.TheVariants.{GaveBack, Sent, TookBack}
 use Rattle.library_api.specs.Calls.{Deed as Done, did_give, did_send}
 use Rattle.library_api.specs.Posts.{Post}
-use Rattle.library_laws.specs.Sends.{logged_bodies}
+use Rattle.engine_laws.specs.libraries.Sends.{logged_bodies}
 use Rattle.message_log.specs.declared.entry.OutEntry.{OutEntry}
 use Rattle.resend_plan.specs.Wire.{entry_of}
-use Rattle.run_laws.specs.Deeds.{deed_kept, deeds_in_lines, deeds_kept, own_deed, own_deeds}
-use Rattle.run_laws.specs.Reports.{post_kept, posts_kept}
+use Rattle.headline.specs.runs.Deeds.{deed_kept, deeds_in_lines, deeds_kept, own_deed, own_deeds}
+use Rattle.headline.specs.runs.Reports.{post_kept, posts_kept}
 use Rattle.run_report.specs.declared.calls.Call.{Call as Kept}
 use Rattle.run_report.specs.declared.calls.Call.TheVariants as calls
 use Rattle.session_book.specs.Sends.{sent_at, sent_by}

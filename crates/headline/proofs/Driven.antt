@@ -17,8 +17,8 @@ use Rattle.library_desk.specs.Serving.{Serves}
 use Rattle.library_desk.specs.declared.desk.LibraryDesk.{LibraryDesk}
 use Rattle.library_desk.specs.declared.serving.LibTurn.{LibTurn}
 use Rattle.library_desk.specs.declared.shared.Shared.{Shared}
-use Rattle.script_run.specs.Means.{StartsEngineOf}
-use Rattle.serve_laws.specs.Driven.{IsAccountedDrive}
+use Rattle.engine_loop.specs.Starts.{StartsEngineOf}
+use Rattle.headline.specs.serving.Driven.{IsAccountedDrive}
 use Rattle.serve_run.specs.Drives.{Drive, DrivesFor, DrivesOn, DrivesOnce}
 use Rattle.session_core.specs.State.{State}
 

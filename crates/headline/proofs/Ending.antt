@@ -9,7 +9,7 @@ use Rattle.headline.proofs.Whole.{EndLaws, turn_whole}
 use Rattle.headline.specs.Ends.{AllEndedWhole, EndedWhole}
 use Rattle.lease_core.specs.declared.entry.Entry.{Entry}
 use Rattle.library_desk.specs.declared.shared.Shared.{Shared}
-use Rattle.run_laws.specs.Accounted.{IsAccountedRun}
+use Rattle.headline.specs.runs.Accounted.{IsAccountedRun}
 use Rattle.script_run.specs.Means.{StartsRun}
 use Rattle.script_run.specs.Runs.{CallsBetween, Carries, CarriesAt, CarriesOut, ComesAtWire, Meets}
 use Rattle.script_run.specs.declared.run.Run.{Run}

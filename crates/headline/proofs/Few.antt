@@ -19,7 +19,7 @@ use Rattle.library_desk.specs.Serving.{Serves}
 use Rattle.library_desk.specs.declared.desk.LibraryDesk.{LibraryDesk}
 use Rattle.library_desk.specs.declared.serving.LibTurn.{LibTurn}
 use Rattle.library_desk.specs.declared.shared.Shared.{Shared}
-use Rattle.script_run.specs.Means.{StartsEngineOf}
+use Rattle.engine_loop.specs.Starts.{StartsEngineOf}
 use Rattle.serve_run.specs.Drives.{Drive, DrivesFor, DrivesOn, DrivesOnce}
 use Rattle.wire_desk.specs.Dials.{DialsAs, plan_at}
 use Rattle.wire_desk.specs.declared.dialling.Dialler.{Dialler}

@@ -35,7 +35,7 @@ use Rattle.library_desk.specs.declared.shared.Shared.{Shared}
 use Rattle.message_log.specs.Growth.{GoesOn}
 use Rattle.message_log.specs.Series.{entry_at}
 use Rattle.message_log.specs.declared.entry.OutEntry.{OutEntry}
-use Rattle.script_run.specs.Means.{StartsEngineOf}
+use Rattle.engine_loop.specs.Starts.{StartsEngineOf}
 use Rattle.script_run.specs.Runs.{CallsBetween, Carries, CarriesAt, CarriesOut, ComesAtWire, Meets}
 use Rattle.script_run.specs.declared.run.Run.{Run}
 use Rattle.script_text.specs.declared.steps.LibStep.{LibStep}

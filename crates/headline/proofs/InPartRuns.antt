@@ -31,16 +31,18 @@ use Rattle.library_desk.specs.Serving.{Serves as ServesLibrary}
 use Rattle.library_desk.specs.declared.desk.LibraryDesk.{LibraryDesk}
 use Rattle.library_desk.specs.declared.serving.LibTurn.{LibTurn}
 use Rattle.library_desk.specs.declared.shared.Shared.{Shared}
-use Rattle.run_laws.specs.Accounted.{IsAccountedAt, IsAccountedRun, first_machines, no_entries}
-use Rattle.run_laws.specs.Sides.{DeskGoesOn, RunGoesOn}
+use Rattle.headline.specs.runs.Accounted.{IsAccountedAt, IsAccountedRun, first_machines, no_entries}
+use Rattle.headline.specs.runs.Sides.{DeskGoesOn, RunGoesOn}
 use Rattle.run_report.specs.declared.records.RunRecord.{RunRecord}
-use Rattle.script_run.specs.Means.{StartsEngineOf, StartsRun, first_moment, report_of, seat_of}
+use Rattle.engine_loop.specs.Starts.{StartsEngineOf}
+use Rattle.script_run.specs.Means.{StartsRun, first_moment, report_of, seat_of}
 use Rattle.script_run.specs.Runs.{CarriesOut, with_room}
-use Rattle.script_run.specs.Stops.{GathersInPart, LeadsInPart, LeavesAsItStood, MeansInPart, StopsInStep}
+use Rattle.engine_loop.specs.Leaving.{GathersInPart, LeavesAsItStood}
+use Rattle.script_run.specs.Stops.{LeadsInPart, MeansInPart, StopsInStep}
 use Rattle.script_run.specs.declared.run.Run.{Run}
 use Rattle.script_text.specs.declared.steps.Script.{Script}
 use Rattle.script_text.specs.declared.steps.Step.{Step}
-use Rattle.serve_laws.specs.Driven.{IsAccountedDrive}
+use Rattle.headline.specs.serving.Driven.{IsAccountedDrive}
 use Rattle.serve_run.specs.Drives.{Drive, DrivesFor, drive_of}
 use Rattle.serve_run.specs.Meetings.{Meeting, MeetsAt, meeting_of}
 use Rattle.serve_run.specs.Serves.{connections_of}

@@ -1,3 +1,6 @@
+mod run_lemmas
+mod serving_lemmas
+mod clock_lemmas
 mod Lists
 mod Causes
 mod Walk

@@ -34,14 +34,14 @@ use Rattle.library_api.specs.declared.event.Event.{Event}
 use Rattle.library_api.specs.declared.event.Event.TheVariants as events
 use Rattle.library_desk.specs.declared.desk.LibraryDesk.{LibraryDesk}
 use Rattle.library_desk.specs.declared.desk.Stray.{Stray}
-use Rattle.library_laws.specs.Replies.{Ask, IsAnswered, answered_by, replies_told, reply_of, stray_reply, stray_told}
-use Rattle.library_laws.specs.Sends.{logged_bodies}
-use Rattle.library_laws.specs.Spans.{LiesWithin}
-use Rattle.run_laws.specs.Accounted.{LeavesAccounted, first_machines, no_entries}
-use Rattle.run_laws.specs.Deeds.{deeds_in_lines, deeds_kept, words_kept}
-use Rattle.run_laws.specs.Lives.{AreKept, HasLived, IsReportedAs, Life}
-use Rattle.run_laws.specs.Reports.{AreFromGrant, GivesBack as GivesBackOn, HandsOn, IsBorneOut, IsGivenBack, IsReported, IsTold as IsToldOn, OnNotice, asks_kept, positions_kept, posts_kept}
-use Rattle.run_laws.specs.Sides.{Begins}
+use Rattle.engine_laws.specs.libraries.Replies.{Ask, IsAnswered, answered_by, replies_told, reply_of, stray_reply, stray_told}
+use Rattle.engine_laws.specs.libraries.Sends.{logged_bodies}
+use Rattle.engine_laws.specs.libraries.Spans.{LiesWithin}
+use Rattle.headline.specs.runs.Accounted.{LeavesAccounted, first_machines, no_entries}
+use Rattle.headline.specs.runs.Deeds.{deeds_in_lines, deeds_kept, words_kept}
+use Rattle.headline.specs.runs.Lives.{AreKept, HasLived, IsReportedAs, Life}
+use Rattle.headline.specs.runs.Reports.{AreFromGrant, GivesBack as GivesBackOn, HandsOn, IsBorneOut, IsGivenBack, IsReported, IsTold as IsToldOn, OnNotice, asks_kept, positions_kept, posts_kept}
+use Rattle.headline.specs.runs.Sides.{Begins}
 use Rattle.run_report.specs.declared.calls.Call.{Call as Kept}
 use Rattle.run_report.specs.declared.calls.Call.TheVariants as calls
 use Rattle.run_report.specs.declared.records.LibReport.{LibReport}

@@ -31,8 +31,8 @@ use Rattle.library_desk.specs.declared.desk.Stray.{Stray}
 use Rattle.message_log.specs.declared.entry.OutEntry.{OutEntry}
 use Rattle.resend_plan.specs.Wire.{behind_type, body_of, message, no_entry, times, type_field}
 use Rattle.resend_plan.specs.declared.item.WireItem.TheVariants.{New}
-use Rattle.run_laws.specs.Accounted.{AllTookAsAnswered, first_machines, no_entries}
-use Rattle.run_laws.specs.Sides.{Begins}
+use Rattle.headline.specs.runs.Accounted.{AllTookAsAnswered, first_machines, no_entries}
+use Rattle.headline.specs.runs.Sides.{Begins}
 use Rattle.run_report.specs.declared.records.RunRecord.{RunRecord}
 use Rattle.session_book.specs.Runs.{Handled}
 use Rattle.session_book.specs.Spells.{Placed, Spell, items_at, spell_items, spells_behind}
@@ -47,8 +47,8 @@ use Rattle.session_core.specs.declared.names.Names.{Names}
 use Rattle.switchboard.specs.Board.{Board, book_at, connection_at, session_at}
 use Rattle.switchboard.specs.Brought.{good_bodies}
 use Rattle.switchboard.specs.Ready.{IsReady}
-use Rattle.text_laws.specs.Answered.{DialledAreSo, answers_logon}
-use Rattle.text_laws.specs.Taken.{IsCutShort}
+use Rattle.engine_laws.specs.texts.Answered.{DialledAreSo, answers_logon}
+use Rattle.engine_laws.specs.texts.Taken.{IsCutShort}
 
 -- a session that dials goes on dialling
 either_dials : (b : Bool) (x y : State) (dials : Option ℕ) → x.dials ≡ dials → y.dials ≡ dials → (if b then x else y).dials ≡ dials

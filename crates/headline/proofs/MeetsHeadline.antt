@@ -20,7 +20,7 @@ use Rattle.headline.specs.Numbering.{AreInOrder}
 use Rattle.lease_core.specs.Laws.{HoldingsAdjoin as HoldingsOfRunsAdjoin, OneOwner}
 use Rattle.lease_words.specs.Views.{LibraryView}
 use Rattle.library_api.specs.Known.{reading_count}
-use Rattle.run_laws.specs.Accounted.{LeavesAccounted, first_machines, no_entries}
+use Rattle.headline.specs.runs.Accounted.{LeavesAccounted, first_machines, no_entries}
 use Rattle.run_report.specs.declared.records.LibReport.{LibReport}
 use Rattle.run_report.specs.declared.records.RunRecord.{RunRecord}
 use Rattle.switchboard.specs.Board.{Board, book_at}

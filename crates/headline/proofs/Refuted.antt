@@ -17,16 +17,16 @@ use Rattle.lease_core.specs.declared.entry.Holding.{Holding}
 use Rattle.lease_core.specs.declared.entry.Why.TheVariants.{LeasesSpent}
 use Rattle.lease_core.specs.declared.messages.Notice.{Notice}
 use Rattle.lease_core.specs.declared.messages.Notice.TheVariants as notices
-use Rattle.library_laws.specs.Replies.{Ask, answered_by, replies_told}
+use Rattle.engine_laws.specs.libraries.Replies.{Ask, answered_by, replies_told}
 use Rattle.run_report.specs.declared.calls.Call.TheVariants as calls
 use Rattle.session_book.specs.Runs.{Handled, TellRuns}
 use Rattle.session_book.specs.Spells.{Spell, placed}
 use Rattle.message_log.specs.declared.entry.OutEntry.{OutEntry}
 use Rattle.session_core.specs.State.{State}
 use Rattle.connection_core.specs.Connection.{garbled_in}
-use Rattle.run_laws.specs.Reports.{HandsOn, asks_kept, positions_kept, posts_kept}
+use Rattle.headline.specs.runs.Reports.{HandsOn, asks_kept, positions_kept, posts_kept}
 use Rattle.library_api.specs.Calls.{numbers_to}
-use Rattle.library_laws.specs.Sends.{logged_bodies}
+use Rattle.engine_laws.specs.libraries.Sends.{logged_bodies}
 use Rattle.library_api.specs.Posts.{Post}
 use Rattle.library_api.specs.Reads.{numbers_from}
 use Rattle.lease_core.specs.declared.lease.Line.{Line}

@@ -10,7 +10,7 @@ use Rattle.lease_core.specs.declared.entry.Entry.TheVariants.{Granted, Release, 
 use Rattle.lease_core.specs.declared.lease.Line.{Line}
 use Rattle.lease_core.specs.declared.word.Standing.TheVariants.{Active}
 use Rattle.lease_core.specs.declared.word.Word.{Word}
-use Rattle.run_laws.specs.Deeds.{words_kept}
+use Rattle.headline.specs.runs.Deeds.{words_kept}
 
 -- the lease of the first deed
 abbrev lease_of : Deed → ℕ

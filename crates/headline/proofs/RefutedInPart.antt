@@ -14,7 +14,7 @@ use Rattle.lease_core.specs.State.{State as Totals}
 use Rattle.lease_core.specs.declared.entry.Entry.{Entry}
 use Rattle.lease_core.specs.declared.entry.Entry.TheVariants.{Arrive}
 use Rattle.message_log.specs.declared.entry.OutEntry.{OutEntry}
-use Rattle.run_laws.specs.Accounted.{first_machines}
+use Rattle.headline.specs.runs.Accounted.{first_machines}
 use Rattle.run_report.specs.declared.records.RunRecord.{RunRecord}
 use Rattle.session_book.specs.Runs.{Handled, TellEach, TellRuns, bodies_of}
 use Rattle.session_book.specs.Spells.{Placed, Spell, act_entries, new_spell, placed, spells_behind}

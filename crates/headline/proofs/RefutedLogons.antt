@@ -17,7 +17,7 @@ use Rattle.lease_core.specs.State.{series_of}
 use Rattle.lease_core.specs.declared.entry.Entry.{Entry}
 use Rattle.lease_core.specs.declared.entry.Entry.TheVariants.{Admin}
 use Rattle.message_log.specs.declared.entry.OutEntry.{OutEntry}
-use Rattle.run_laws.specs.Accounted.{first_machines}
+use Rattle.headline.specs.runs.Accounted.{first_machines}
 use Rattle.run_report.specs.declared.records.RunRecord.{RunRecord}
 use Rattle.session_book.specs.Runs.{Handled, handled_of}
 use Rattle.session_book.specs.Spells.{Placed, Spell, placed, spells_behind}
@@ -25,7 +25,7 @@ use Rattle.session_book.specs.Told.{IsLogged}
 use Rattle.session_core.specs.Admin.{heartbeat_text, logon_text}
 use Rattle.session_core.specs.declared.acts.Admin.TheVariants.{Heartbeat, Logon}
 use Rattle.switchboard.specs.Brought.{good_bodies}
-use Rattle.text_laws.specs.Answered.{answers_logon}
+use Rattle.engine_laws.specs.texts.Answered.{answers_logon}
 
 -- what begins with more than all is none
 begins_past : (first more rest : List ℕ) (byte : ℕ) → (first ++ byte ∷ more) ++ rest ≡ first → ⊥

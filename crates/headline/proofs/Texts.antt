@@ -18,14 +18,14 @@ use Rattle.library_desk.specs.declared.desk.Stray.{Stray}
 use Rattle.message_log.specs.declared.entry.OutEntry.{OutEntry}
 use Rattle.resend_plan.specs.declared.item.Names2.{Names2}
 use Rattle.resend_plan.specs.declared.item.WireItem.{WireItem}
-use Rattle.run_laws.specs.Accounted.{EndedTookTexts, no_entries}
-use Rattle.run_laws.specs.Sides.{Begins}
+use Rattle.headline.specs.runs.Accounted.{EndedTookTexts, no_entries}
+use Rattle.headline.specs.runs.Sides.{Begins}
 use Rattle.run_report.specs.declared.records.RunRecord.{RunRecord}
 use Rattle.session_book.specs.Spells.{Spell, spell_items, spells_behind}
 use Rattle.session_core.specs.declared.causes.Cause.{Cause}
 use Rattle.switchboard.specs.Board.{Board, book_at, connection_at, names_at, session_at}
 use Rattle.switchboard.specs.Ready.{HasTextOf, IsReady}
-use Rattle.text_laws.specs.Taken.{IsCutShort, TookTextOf}
+use Rattle.engine_laws.specs.texts.Taken.{IsCutShort, TookTextOf}
 
 module _ (names : Names2) (log : List (List OutEntry)) where
   text_append : (first second : List WireItem) → text_of names log (first ++ second) ≡ text_of names log first ++ text_of names log second

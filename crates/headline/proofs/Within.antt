@@ -9,7 +9,7 @@ use Rattle.lease_core.specs.declared.messages.Notice.{Notice}
 use Rattle.lease_core.specs.declared.messages.Notice.TheVariants as notices
 use Rattle.lease_core.specs.declared.record.Record.{Record}
 use Rattle.library_desk.specs.declared.desk.Stray.{Stray}
-use Rattle.library_laws.specs.Spans.{IsBelowEnd, LiesWithin}
+use Rattle.engine_laws.specs.libraries.Spans.{IsBelowEnd, LiesWithin}
 use Rattle.run_report.specs.declared.records.RunRecord.{RunRecord}
 use Rattle.switchboard.specs.Board.{Board}
 

@@ -7,7 +7,7 @@ use Rattle.lease_core.specs.State.{State as Totals, series_of, state_of}
 use Rattle.lease_core.specs.declared.entry.Entry.{Entry}
 use Rattle.lease_core.specs.declared.entry.Entry.TheVariants.{Release, Send}
 use Rattle.message_log.specs.declared.entry.OutEntry.{OutEntry}
-use Rattle.run_laws.specs.Deeds.{words_kept}
+use Rattle.headline.specs.runs.Deeds.{words_kept}
 use Rattle.run_report.specs.declared.calls.Call.{Call as Kept}
 use Rattle.run_report.specs.declared.calls.Call.TheVariants as calls
 use Rattle.run_report.specs.declared.records.LibReport.{LibReport}

@@ -7,7 +7,7 @@ use Rattle.lease_core.specs.State.{State as Totals, series_of}
 use Rattle.lease_core.specs.declared.entry.Entry.TheVariants.{Admin}
 use Rattle.message_log.specs.declared.entry.OutEntry.{OutEntry}
 use Rattle.resend_plan.specs.Wire.{behind_type, message, times, type_field}
-use Rattle.run_laws.specs.Sides.{Begins}
+use Rattle.headline.specs.runs.Sides.{Begins}
 use Rattle.session_book.specs.Runs.{Handled}
 use Rattle.session_book.specs.Spells.{Placed, Spell, placed}
 use Rattle.session_book.specs.Told.{IsLogged}
@@ -17,7 +17,7 @@ use Rattle.session_core.specs.State.{State}
 use Rattle.session_core.specs.declared.acts.Act.TheVariants.{Send}
 use Rattle.session_core.specs.declared.acts.Admin.TheVariants.{Logon}
 use Rattle.session_core.specs.declared.names.Names.{Names}
-use Rattle.text_laws.specs.Answered.{answers_logon}
+use Rattle.engine_laws.specs.texts.Answered.{answers_logon}
 
 -- The spell of a connection begins with a Logon with this HeartBtInt: its first entry, which stands directly behind the Bind, is the Admin of a number, and there
 -- the outbound log has that Logon.

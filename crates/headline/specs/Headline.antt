@@ -25,13 +25,13 @@ use Rattle.lease_core.specs.declared.messages.Notice.{Notice}
 use Rattle.lease_core.specs.declared.messages.Notice.TheVariants as notices
 use Rattle.library_api.specs.Calls.{numbers_to}
 use Rattle.library_desk.specs.declared.desk.Stray.{Stray}
-use Rattle.library_laws.specs.Replies.{Ask, answered_by, replies_told, reply_of, stray_reply, stray_told}
-use Rattle.library_laws.specs.Sends.{logged_bodies}
+use Rattle.engine_laws.specs.libraries.Replies.{Ask, answered_by, replies_told, reply_of, stray_reply, stray_told}
+use Rattle.engine_laws.specs.libraries.Sends.{logged_bodies}
 use Rattle.message_log.specs.declared.entry.OutEntry.{OutEntry}
 use Rattle.resend_plan.specs.declared.item.Names2.{Names2}
-use Rattle.run_laws.specs.Accounted.{first_machines}
-use Rattle.run_laws.specs.Reports.{AreFromGrant, HandsOn, IsGivenBack, asks_kept, positions_kept, posts_kept}
-use Rattle.run_laws.specs.Sides.{Begins}
+use Rattle.headline.specs.runs.Accounted.{first_machines}
+use Rattle.headline.specs.runs.Reports.{AreFromGrant, HandsOn, IsGivenBack, asks_kept, positions_kept, posts_kept}
+use Rattle.headline.specs.runs.Sides.{Begins}
 use Rattle.run_report.specs.declared.calls.Call.{Call as Kept}
 use Rattle.run_report.specs.declared.calls.Call.TheVariants as calls
 use Rattle.run_report.specs.declared.records.LibReport.{LibReport}

@@ -10,8 +10,8 @@ use Rattle.fix_frame.specs.declared.layout.TheConstants.{LONGEST_FRAME}
 use Rattle.gate_io.specs.declared.wires.TheConstants.{FIRST_DIALLED}
 use Rattle.headline.specs.Headline.{EachSession, HasSession}
 use Rattle.lease_core.specs.State.{state_of}
-use Rattle.run_laws.specs.Accounted.{first_machines}
-use Rattle.run_laws.specs.Sides.{Begins}
+use Rattle.headline.specs.runs.Accounted.{first_machines}
+use Rattle.headline.specs.runs.Sides.{Begins}
 use Rattle.run_report.specs.declared.records.RunRecord.{RunRecord}
 use Rattle.session_book.specs.Runs.{Handled, IsInside, TellEach, TellRuns, bodies_of}
 use Rattle.session_book.specs.Spells.{Spell, act_entries, placed_from, spells_behind}

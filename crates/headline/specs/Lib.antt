@@ -1,3 +1,6 @@
+pub mod runs
+pub mod serving
+pub mod clock
 pub mod Deeds
 pub mod Ends
 pub mod Headline

@@ -3,7 +3,7 @@ use Rattle.std.specs.Prelude.{◌≡◌, ℕ, List, slice_get, Some}
 use Rattle.engine_end.specs.Records.{SessionLeft}
 use Rattle.lease_core.specs.declared.messages.Notice.{Notice}
 use Rattle.lease_core.specs.declared.messages.Notice.TheVariants as notices
-use Rattle.library_laws.specs.Spans.{IsBelowEnd}
+use Rattle.engine_laws.specs.libraries.Spans.{IsBelowEnd}
 
 -- A message of a lease has a position below the end of what the library held by that lease, as the session's journal tells it.
 abbrev pub IsWithinHolding : List SessionLeft → ℕ → Notice → Type 0

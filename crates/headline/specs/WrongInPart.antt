@@ -8,7 +8,7 @@ use Rattle.headline.specs.Headline.{EachConnection, HasSession}
 use Rattle.headline.specs.InPart.{HeadlineInPart}
 use Rattle.lease_core.specs.State.{State as Totals}
 use Rattle.lease_core.specs.declared.entry.Entry.TheVariants.{Arrive, Bind}
-use Rattle.run_laws.specs.Accounted.{first_machines}
+use Rattle.headline.specs.runs.Accounted.{first_machines}
 use Rattle.run_report.specs.declared.records.RunRecord.{RunRecord}
 use Rattle.session_book.specs.Spells.{Placed, Spell, act_entries, placed, spells_behind}
 

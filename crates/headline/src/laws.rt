@@ -20,38 +20,39 @@ ghost use Rattle.headline.specs.WrongInPart.{BindsNoConnection, HasOtherNames, I
 ghost use Rattle.lease_core.specs.declared.entry.Entry.{Entry};
 ghost use Rattle.lease_desk.specs.declared.desk.LeaseDesk.{LeaseDesk};
 ghost use Rattle.library_desk.specs.declared.shared.Shared.{Shared};
-ghost use Rattle.run_laws.specs.Accounted.{IsAccountedRun};
+ghost use Rattle.headline.specs.runs.Accounted.{IsAccountedRun};
 ghost use Rattle.run_report.specs.declared.records.RunRecord.{RunRecord};
-ghost use Rattle.script_run.specs.Means.{Means, StartsEngineOf, StartsRun};
+ghost use Rattle.engine_loop.specs.Starts.{StartsEngineOf};
+ghost use Rattle.script_run.specs.Means.{Means, StartsRun};
 ghost use Rattle.script_run.specs.Runs.{Carries, CarriesOut};
 ghost use Rattle.script_run.specs.Stops.{MeansInPart};
 ghost use Rattle.script_run.specs.declared.run.Run.{Run};
 ghost use Rattle.script_text.specs.declared.steps.Script.{Script};
 ghost use Rattle.script_text.specs.declared.steps.Step.{Step};
-ghost use Rattle.serve_laws.specs.Served.{AnyReadings};
+ghost use Rattle.headline.specs.serving.Served.{AnyReadings};
 ghost use Rattle.serve_run.specs.Drives.{Drive, DrivesFor};
 ghost use Rattle.serve_run.specs.Serves.{Serves};
 ghost use Rattle.serve_run.specs.Stops.{ServesInPart};
 ghost use Rattle.session_core.specs.State.{State};
 
+use crate::runs::{
+    engines_are_accounted_for, kept_calls_tell, libraries_live, runs_are_accounted_for, runs_go_on,
+    scripts_are_accounted_for,
+};
+use crate::serving::{drives_are_accounted_for, served_scripts_are_accounted_for};
 use engine_laws::laws::{
     accounts_are_whole, happenings_are_accounted_for, lines_are_accounted_for,
     sessions_are_accounted_for, steps_are_accounted_for, stops_are_accounted_for,
 };
+use engine_laws::texts::texts_are_taken;
 use lease_core::laws::{
     entries_decide_one_by_one, holdings_adjoin, lines_tell_deeds, one_owner_at_a_time,
 };
 use library_api::replies_close_requests;
 use library_desk::laws::serving_happens;
 use message_log::entries_stay;
-use run_laws::laws::{
-    engines_are_accounted_for, kept_calls_tell, libraries_live, runs_are_accounted_for, runs_go_on,
-    scripts_are_accounted_for,
-};
-use serve_laws::laws::{drives_are_accounted_for, served_scripts_are_accounted_for};
 use session_book::laws::acts_are_told;
 use switchboard::laws::boards_go_on;
-use text_laws::laws::texts_are_taken;
 
 /// The connections of a run are numbered in the order in which they come, the accepted ones from 0 on and the
 /// dialled ones from the first dialled number on: as it begins, behind each step of its script, and as each

@@ -2,7 +2,7 @@
 use Rattle.std.proofs.Common.{◌≡◌, ℕ, zero, suc, ◌+◌, ◌<◌, ◌≤◌, List, [], ◌∷◌, length, get_or, set, Option, None, Some, Bool, true, false, refl, sym, ap, subst, ◌∙◌, arith}
 use Rattle.std.specs.Prelude.{if◌then◌else◌, IfSome}
 use Rattle.std.proofs.lemmas.List.{get_or-set_same, length-map}
-use Rattle.connection_core.specs.Connection.{ConnectionState}
+use Rattle.switchboard.specs.Connection.{ConnectionState}
 use Rattle.lease_core.specs.Lines.{last_line, lines_of, missing_sends, raised, raised_line, raises, word_of}
 use Rattle.lease_core.specs.State.{with_last}
 use Rattle.lease_core.specs.declared.entry.Entry.{Entry}

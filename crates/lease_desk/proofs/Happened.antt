@@ -1,7 +1,7 @@
 -- What happens on connections and by the clock leaves the leases of each session as they are.
 use Rattle.std.proofs.Common.{◌≡◌, inl, inr, ℕ, ◌<◌, ◌≤◌, List, [], ◌∷◌, ◌++◌, length, get_or, set, Some, false, refl, sym, ap, subst, ◌∙◌, arith}
 use Rattle.std.proofs.lemmas.List.{get_or-set_other, length-set}
-use Rattle.connection_core.specs.Outgoing.{no_outgoing}
+use Rattle.switchboard.specs.Outgoing.{no_outgoing}
 use Rattle.lease_core.specs.declared.entry.Entry.{Entry}
 use Rattle.lease_core.specs.declared.entry.Entry.TheVariants.{Lapse}
 use Rattle.lease_core.specs.declared.lease.Line.{Line}

@@ -7,7 +7,7 @@ ghost use Rattle.lease_words.specs.Facts.{OthersTaken};
 ghost use Rattle.lease_words.specs.Leases.{Each, is_running};
 ghost use Rattle.lease_words.specs.Tells.{IsSettled};
 ghost use Rattle.lease_words.specs.Views.{engine_at, pending};
-ghost use Rattle.resend_plan.specs.Fit.{IsFit};
+ghost use Rattle.session_book.specs.Fit.{IsFit};
 ghost use Rattle.switchboard.specs.Board.{book_at, place_at};
 ghost use Rattle.switchboard.specs.Stops.{NothingIsTold};
 

@@ -11,8 +11,8 @@ use Rattle.lease_core.specs.declared.lease.Line.{Line}
 use Rattle.lease_core.specs.declared.messages.Reply.{Reply}
 use Rattle.lease_core.specs.declared.messages.Reply.TheVariants.{Granted, Refused}
 use Rattle.lease_desk.specs.Desk.{GoesOn, IsGrant, owner_at}
-use Rattle.session_book.specs.Book.{Book}
-use Rattle.session_book.specs.Kept.{Kept}
+use Rattle.switchboard.specs.Book.{Book}
+use Rattle.switchboard.specs.Kept.{Kept}
 use Rattle.switchboard.specs.Board.{Board, book_at, no_session, session_at, with_session}
 use Rattle.library_desk.specs.Serving.{AreCursors, IsCursorOf, cursor_at, no_cursor}
 

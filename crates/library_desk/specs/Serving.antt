@@ -25,7 +25,7 @@ use Rattle.library_desk.specs.declared.shared.Shared.{Shared}
 use Rattle.library_desk.specs.declared.ends.Next.{Next}
 use Rattle.library_desk.specs.declared.ends.Next.TheVariants.{Full, Nothing, Popped}
 use Rattle.ring_links.specs.Ends.{HasRoom, IsFull}
-use Rattle.session_book.specs.Acts.{after_request}
+use Rattle.switchboard.specs.Acts.{after_request}
 use Rattle.session_core.specs.declared.routing.TheConstants.{MOST_SESSIONS}
 use Rattle.switchboard.specs.Board.{Board, book_at, session_at, with_session}
 use Rattle.switchboard.specs.Happenings.{Happens, requests}

@@ -1,4 +1,5 @@
 -- The text of a record, line by line.
+pub mod Records
 pub mod Lines
 pub mod Journals
 pub mod Sessions

@@ -3,10 +3,9 @@ use Rattle.std.specs.Prelude.{◌≡◌, ℕ, ◌+◌, true, List, [], ◌∷◌
 use Rattle.engine_config.specs.declared.config.Config.{Config}
 use Rattle.engine_end.specs.Finishing.{Finishes}
 use Rattle.engine_loop.specs.Engines.{until_of}
-use Rattle.engine_loop.specs.Starts.{StartsDials, StartsFigures, StartsLines, StartsRoutes, dialler_of, library_desk_of, wire_desk_of}
+use Rattle.engine_loop.specs.Starts.{StartsEngineOf}
 use Rattle.engine_loop.specs.declared.engine.Engine.{Engine}
 use Rattle.engine_start.specs.declared.ends.LibraryEnds.{LibraryEnds}
-use Rattle.engine_start.specs.Starts.{StartsDesk, StartsEngine, StartsSessions, StartsTable}
 use Rattle.gate_io.specs.MemWire.{new_wire}
 use Rattle.gate_io.specs.StepClock.{ClockState}
 use Rattle.lease_words.specs.Tokens.{new_library_seat}
@@ -39,17 +38,6 @@ first_moment (step.Block c after ∷ steps) = first_moment steps
 first_moment (step.Unblock c ∷ steps) = first_moment steps
 first_moment (step.Turn ∷ steps) = first_moment steps
 first_moment (step.Lib library what ∷ steps) = first_moment steps
-
--- an engine as it begins
-pub record StartsEngineOf (config : Config) (moment : ℕ) (shared : Shared) (engine : Engine) : Type 0 where
-  pub sessions : StartsSessions config (library_desk_of engine).desk.board
-  pub table : StartsTable config shared
-  pub desk : StartsDesk config moment shared (library_desk_of engine)
-  pub ends : StartsEngine config shared (library_desk_of engine).ends.items
-  pub routes : StartsRoutes config (length config.names) (wire_desk_of engine).routes
-  pub lines : StartsLines config (wire_desk_of engine)
-  pub dials : StartsDials config (dialler_of engine)
-  pub figures : StartsFigures config moment engine
 
 -- A library as it begins, at its place: it has done nothing.
 pub record StartsCaller (asks : ℕ) (shared : Shared) (place : ℕ) (caller : Caller) : Type 0 where

@@ -1,16 +1,10 @@
 -- A run that stops for want of memory, and what it leaves.
-use Rattle.std.specs.Prelude.{◌≡◌, ◌⊎◌, ℕ, ◌<◌, false, List, [], length, map}
-use Rattle.engine_end.specs.Finishing.{GathersAll, GathersSome, after_settling}
-use Rattle.engine_end.specs.Records.{IsLeftBy}
-use Rattle.engine_end.specs.declared.records.EngineRecord.{EngineRecord}
-use Rattle.engine_loop.specs.Engines.{until_of}
+use Rattle.std.specs.Prelude.{◌≡◌, ◌⊎◌, ℕ, ◌<◌, false, List, length, map}
+use Rattle.engine_loop.specs.Leaving.{LeavesAsItStood}
 use Rattle.engine_loop.specs.Stops.{StopsTurn}
 use Rattle.engine_loop.specs.Turns.{at_wire}
 use Rattle.engine_loop.specs.declared.engine.Engine.{Engine}
 use Rattle.gate_io.specs.MemWire.{door_of, link_at}
-use Rattle.lease_core.specs.declared.record.Record.{Record}
-use Rattle.lease_desk.specs.declared.desk.LeaseDesk.{LeaseDesk}
-use Rattle.lease_words.specs.Views.{LibraryView}
 use Rattle.library_desk.specs.declared.shared.Shared.{Shared}
 use Rattle.run_report.specs.declared.records.RunRecord.{RunRecord}
 use Rattle.script_run.specs.Means.{StartsRun, first_moment, report_of, seat_of}
@@ -19,23 +13,7 @@ use Rattle.script_run.specs.declared.run.Run.{Run}
 use Rattle.script_text.specs.declared.steps.Script.{Script}
 use Rattle.script_text.specs.declared.steps.Step.{Step}
 
--- what a run leaves that did not begin
-abbrev pub no_run : RunRecord
-no_run = record { engine = record { sessions = []; connections = []; strays = []; accepted = 0; added = [] }; libraries = [] }
-
--- each session is gathered, or some are, or none is
-abbrev pub GathersInPart : ℕ → ℕ → LeaseDesk → LeaseDesk → Type 0
-GathersInPart at until old new = (new ≡ old) ⊎ (GathersAll at until old new ⊎ GathersSome at until old new)
-
--- What an engine leaves for which memory was wanting: its sessions and connections as they stood; or, where it wasn't in the midst of a turn, with its libraries'
--- seats taken in, and as many sessions gathered once more as there was memory for.
-pub record LeavesAsItStood (seats : List LibraryView) (engine : Engine) (left : EngineRecord) : Type 0 where
-  pub gathered : LeaseDesk
-  pub gathers : (gathered ≡ engine.sessions.desk) ⊎ ((engine.failed ≡ false) × GathersInPart engine.moment (until_of engine) (after_settling seats engine.sessions.desk) gathered)
-  pub added : List Record
-  pub leaves : IsLeftBy gathered.board engine.sessions.strays.items engine.accepted added left
-
--- and with its libraries, each with the calls that it made
+-- What a run leaves for which memory was wanting: its engine as it stood, and its libraries, each with the calls that it made.
 pub record LeavesInPart (run : Run) (left : RunRecord) : Type 0 where
   pub engine : LeavesAsItStood (map seat_of run.callers.items) run.engine left.engine
   pub libraries : left.libraries ≡ map report_of run.callers.items

@@ -2,7 +2,8 @@
 
 ghost use Rattle.std.specs.Prelude.{◌≡◌, ◌≤◌, IfErr, IfOk, false, length, ◌⊎◌};
 ghost use Rattle.std.specs.List.{All};
-ghost use Rattle.script_run.specs.Stops.{LeadsInPart, MeansInPart, no_run};
+ghost use Rattle.run_report.specs.Records.{no_run};
+ghost use Rattle.script_run.specs.Stops.{LeadsInPart, MeansInPart};
 ghost use Rattle.engine_end.specs.Records.{HasLawfulJournal};
 ghost use Rattle.script_run.specs.Comes.{FitBehind};
 ghost use Rattle.script_run.specs.Means.{LeadsTo, Means, first_moment};

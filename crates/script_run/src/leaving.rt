@@ -9,9 +9,9 @@ ghost use Rattle.script_run.specs.Means.{Leaves, report_of, seat_of};
 ghost use Rattle.script_run.specs.Runs.{IsRunning};
 
 use crate::callers::Caller;
-use crate::laws::engines_leave_as_they_stood;
 use crate::run::Run;
 use engine_loop::Engine;
+use engine_loop::laws::engines_leave_as_they_stood;
 use gate_io::{NoMemory, Rows};
 use lease_words::LibrarySeat;
 use library_calls::reads_of;

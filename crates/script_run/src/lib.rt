@@ -5,7 +5,6 @@
 mod callers;
 mod carrying;
 mod coming;
-pub mod laws;
 mod leaving;
 mod meeting;
 mod run;

@@ -6,7 +6,7 @@ use Rattle.engine_loop.specs.Turns.{AtWire}
 use Rattle.engine_loop.specs.declared.records.Turn.{Turn}
 use Rattle.gate_io.specs.Clock.{TakesReadings}
 use Rattle.gate_io.specs.Wire.{Door, Link}
-use Rattle.wire_desk.specs.Lines.{KnowsAsBefore}
+use Rattle.engine_loop.specs.Lines.{KnowsAsBefore}
 use Rattle.serve_run.specs.Drives.{DrivesToEnd}
 use Rattle.engine_loop.specs.declared.engine.Engine.{Engine}
 use Rattle.serve_run.specs.Ended.{Awaits, IsOver, has_said, is_ended, or_ended}

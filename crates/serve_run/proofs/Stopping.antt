@@ -6,7 +6,7 @@ use Rattle.engine_loop.specs.Turns.{AtWire, at_wire}
 use Rattle.engine_loop.specs.declared.engine.Engine.{Engine}
 use Rattle.gate_io.specs.Wire.{Door, Link}
 use Rattle.run_report.specs.declared.records.RunRecord.{RunRecord}
-use Rattle.script_run.specs.Stops.{LeavesAsItStood}
+use Rattle.engine_loop.specs.Leaving.{LeavesAsItStood}
 use Rattle.serve_run.specs.Drives.{DrivesToEnd}
 use Rattle.serve_run.specs.Meetings.{meeting_of}
 use Rattle.serve_run.specs.Stops.{DrivesInPart, DrivesToAnEnd, LeavesInPart}

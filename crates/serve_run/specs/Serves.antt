@@ -11,7 +11,7 @@ use Rattle.gate_io.specs.declared.clocks.TheConstants.{LAST_MOMENT}
 use Rattle.library_desk.specs.declared.shared.Shared.{Shared}
 use Rattle.run_report.specs.declared.records.LibReport.{LibReport}
 use Rattle.run_report.specs.declared.records.RunRecord.{RunRecord}
-use Rattle.script_run.specs.Means.{StartsEngineOf}
+use Rattle.engine_loop.specs.Starts.{StartsEngineOf}
 use Rattle.script_text.specs.declared.steps.Script.{Script}
 use Rattle.serve_run.specs.Drives.{DrivesToEnd}
 use Rattle.serve_run.specs.Meetings.{MeetAll, Meeting, meeting_of}

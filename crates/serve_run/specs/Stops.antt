@@ -7,8 +7,8 @@ use Rattle.gate_io.specs.Wire.{Door, Link}
 use Rattle.gate_io.specs.declared.clocks.TheConstants.{LAST_MOMENT}
 use Rattle.library_desk.specs.declared.shared.Shared.{Shared}
 use Rattle.run_report.specs.declared.records.RunRecord.{RunRecord}
-use Rattle.script_run.specs.Means.{StartsEngineOf}
-use Rattle.script_run.specs.Stops.{LeavesAsItStood}
+use Rattle.engine_loop.specs.Starts.{StartsEngineOf}
+use Rattle.engine_loop.specs.Leaving.{LeavesAsItStood}
 use Rattle.script_text.specs.declared.steps.Script.{Script}
 use Rattle.serve_run.specs.Drives.{Drive, DrivesFor, DrivesToEnd, drive_of}
 use Rattle.serve_run.specs.Meetings.{MeetAll, Meeting, meeting_of}

@@ -7,18 +7,18 @@ ghost use Rattle.engine_end.specs.Finishing.{Finishes};
 ghost use Rattle.engine_end.specs.Records.{HasLawfulJournal};
 ghost use Rattle.engine_loop.specs.Engines.{IsEngine, until_of};
 ghost use Rattle.gate_io.specs.Wire.{Door, Link};
-ghost use Rattle.script_run.specs.Stops.{LeavesAsItStood};
+ghost use Rattle.engine_loop.specs.Leaving.{LeavesAsItStood};
 ghost use Rattle.serve_run.specs.Meetings.{AreWorkers};
 ghost use Rattle.serve_run.specs.Serves.{LeavesRecord};
 ghost use Rattle.serve_run.specs.Workers.{report_of, seat_of};
 
 use crate::workers::Worker;
 use engine_loop::Engine;
+use engine_loop::laws::engines_leave_as_they_stood;
 use gate_io::{NoMemory, Rows};
 use lease_words::LibrarySeat;
 use library_desk::Shared;
 use run_report::{LibReport, RunRecord};
-use script_run::laws::engines_leave_as_they_stood;
 use std::alloc::Global;
 use std::marker::Model;
 

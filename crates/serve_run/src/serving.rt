@@ -8,7 +8,7 @@ ghost use Rattle.engine_start.specs.Starts.{AreLibraryEnds};
 ghost use Rattle.engine_start.specs.declared.ends.LibraryEnds.{LibraryEnds as TheEnds};
 ghost use Rattle.gate_io.specs.Clock.{TakesReadings};
 ghost use Rattle.gate_io.specs.Wire.{Door, Link};
-ghost use Rattle.script_run.specs.Stops.{no_run};
+ghost use Rattle.run_report.specs.Records.{no_run};
 ghost use Rattle.script_text.specs.Lawful.{IsLawful};
 ghost use Rattle.serve_run.specs.Meetings.{AreWorkers};
 ghost use Rattle.serve_run.specs.Serves.{Concludes, Serves, first_unfinished};

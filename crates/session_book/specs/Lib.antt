@@ -14,3 +14,9 @@ pub mod Moments
 pub mod Reviving
 pub mod Records
 pub mod Rereading
+pub use Rattle.resend_plan.specs.Fit
+pub use Rattle.resend_plan.specs.Wire
+pub use Rattle.resend_plan.specs.declared.item.Names2
+pub use Rattle.resend_plan.specs.declared.item.WireItem
+pub use Rattle.message_log.specs.declared.entry.OutEntry
+pub use Rattle.seq_gaps.specs.Line

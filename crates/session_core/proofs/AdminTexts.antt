@@ -5,7 +5,7 @@ use Rattle.std.proofs.lemmas.Bool.Decides.{nat_tests}
 use Rattle.std.proofs.lemmas.Fmt.{length-decimal-le}
 use Rattle.std.proofs.lemmas.List.{append_assoc, length-append}
 use Rattle.fix_fields.specs.Field.{tagged_text}
-use Rattle.fix_frame.specs.Frame.{IsBody}
+use Rattle.fix_fields.specs.Frame.{IsBody}
 use Rattle.session_core.specs.Admin.{admin_text, logon_text, heartbeat_text, test_request_text, resend_request_text, reject_text, logout_text, is_tick_text}
 use Rattle.session_core.specs.Tasks.{HasShortTexts, is_tick}
 use Rattle.session_core.specs.declared.acts.Admin.{Admin}

@@ -5,7 +5,7 @@ use Rattle.std.specs.List.{All}
 use Rattle.gate_io.specs.declared.clocks.TheConstants.{LAST_MOMENT}
 use Rattle.seq_gaps.specs.Line.{Line, IsNotHeld, fresh_line, after_fill}
 use Rattle.seq_gaps.specs.declared.offered.TheConstants.{HELD_LIMIT, MAX_NUMBER}
-use Rattle.fix_frame.specs.Frame.{IsBody}
+use Rattle.fix_fields.specs.Frame.{IsBody}
 use Rattle.session_core.specs.Admin.{admin_text, is_tick_text}
 use Rattle.session_core.specs.Ask.{after_ask}
 use Rattle.session_core.specs.Carry.{Progress, after_carrying, after_draining, after_handling}

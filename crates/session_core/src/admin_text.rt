@@ -2,7 +2,7 @@
 
 ghost use Rattle.std.specs.Prelude.{◌≡◌, ◌<◌, ◌≤◌, ◌^◌, ◌++◌, decimal, length, IfOk, OnOk};
 ghost use Rattle.fix_fields.specs.Field.{tagged_text};
-ghost use Rattle.fix_frame.specs.Frame.{IsBody};
+ghost use Rattle.fix_fields.specs.Frame.{IsBody};
 ghost use Rattle.session_core.specs.Tasks.{HasShortTexts, is_tick};
 ghost use Rattle.session_core.specs.Admin.{admin_text, is_tick_text, logon_text, heartbeat_text, test_request_text, resend_request_text, reject_text, logout_text};
 

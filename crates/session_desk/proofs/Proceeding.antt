@@ -1,7 +1,7 @@
 -- Sessions and connections go on, step by step.
 use Rattle.std.proofs.Common.{◌≡◌, ℕ, ◌<◌, ◌≤◌, List, [], ◌∷◌, ◌++◌, length, Option, None, Some, refl, sym, ap, subst, ◌∙◌, arith}
 use Rattle.std.specs.Prelude.{slice_get}
-use Rattle.connection_core.specs.Connection.{ConnectionState}
+use Rattle.switchboard.specs.Connection.{ConnectionState}
 use Rattle.lease_desk.specs.Desk.{GoesOn}
 use Rattle.lease_core.specs.declared.entry.Entry.{Entry}
 use Rattle.session_book.specs.Book.{Book}

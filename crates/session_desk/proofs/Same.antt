@@ -2,7 +2,7 @@
 use Rattle.std.proofs.Common.{◌≡◌, ◌⊎◌, inl, inr, ℕ, ◌<◌, List, [], ◌∷◌, length, get_or, set, Option, None, Some, refl, sym, ap, subst, ◌∙◌}
 use Rattle.std.proofs.lemmas.List.{get_or-set_other, get_or-set_same, length-set}
 use Rattle.std.specs.Prelude.{IfSome}
-use Rattle.connection_core.specs.Connection.{ConnectionState}
+use Rattle.switchboard.specs.Connection.{ConnectionState}
 use Rattle.lease_desk.specs.Desk.{Gathers, bodies_of}
 use Rattle.lease_desk.specs.declared.desk.LeaseDesk.{LeaseDesk}
 use Rattle.session_book.specs.Book.{Book, IsSameSession}

@@ -1,6 +1,6 @@
 -- The names of a session as what is written wants them.
 use Rattle.std.proofs.Common.{◌≡◌, ap, ◌∙◌}
-use Rattle.resend_plan.specs.declared.item.Names2.{Names2}
+use Rattle.session_book.specs.Names2.{Names2}
 use Rattle.session_core.specs.declared.names.Names.{Names}
 use Rattle.session_book.specs.Kept.{AreNamesOf}
 

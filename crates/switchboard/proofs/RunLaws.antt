@@ -2,7 +2,7 @@
 use Rattle.std.proofs.Common.{◌≡◌, ◌≢◌, ℕ, ◌≤◌, List, [], ◌∷◌, ◌++◌, length, None, Some}
 use Rattle.lease_core.specs.declared.entry.Entry.{Entry}
 use Rattle.lease_core.specs.declared.word.Word.{Word}
-use Rattle.message_log.specs.declared.entry.OutEntry.{OutEntry}
+use Rattle.session_book.specs.OutEntry.{OutEntry}
 use Rattle.session_core.specs.State.{IsState, State}
 use Rattle.session_core.specs.declared.phases.Phase.TheVariants.{Off}
 use Rattle.session_book.specs.Acts.{after_binding, after_dial, after_end, after_lapse, after_message, after_request, after_ticking}

@@ -4,7 +4,7 @@ use Rattle.std.proofs.lemmas.Bool.{eq-eqb, ne_eqb}
 use Rattle.connection_core.specs.Connection.{ConnectionState}
 use Rattle.connection_core.specs.Outgoing.{no_outgoing}
 use Rattle.lease_core.specs.declared.entry.Entry.{Entry}
-use Rattle.message_log.specs.declared.entry.OutEntry.{OutEntry}
+use Rattle.session_book.specs.OutEntry.{OutEntry}
 use Rattle.session_core.specs.State.{State}
 use Rattle.session_core.specs.declared.causes.Cause.{Cause}
 use Rattle.session_book.specs.Book.{Book, Desk, with_outbox}

@@ -4,9 +4,9 @@ use Rattle.connection_core.specs.Items.{AreItemsOf}
 use Rattle.connection_core.specs.Outgoing.{Outgoing, after_makings, after_writing, no_outgoing, waiting_text}
 use Rattle.lease_core.specs.declared.entry.Entry.{Entry}
 use Rattle.lease_core.specs.declared.word.Word.{Word}
-use Rattle.message_log.specs.declared.entry.OutEntry.{OutEntry}
-use Rattle.resend_plan.specs.declared.item.Names2.{Names2}
-use Rattle.resend_plan.specs.declared.item.WireItem.{WireItem}
+use Rattle.session_book.specs.OutEntry.{OutEntry}
+use Rattle.session_book.specs.Names2.{Names2}
+use Rattle.session_book.specs.WireItem.{WireItem}
 use Rattle.session_book.specs.Acts.{after_binding, after_dial, after_end, after_lapse, after_message, after_request, after_ticking}
 use Rattle.session_book.specs.Book.{Book, Desk, with_outbox}
 use Rattle.session_book.specs.Kept.{IsBook}

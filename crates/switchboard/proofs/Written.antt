@@ -5,9 +5,9 @@ use Rattle.connection_core.specs.Connection.{ConnectionState, after_end as after
 use Rattle.connection_core.specs.Outgoing.{Outgoing, after_makings, item_text, with_first_text, written_text}
 use Rattle.lease_core.specs.declared.entry.Entry.{Entry}
 use Rattle.lease_core.specs.declared.event.Event.TheVariants.{Binds as Bound}
-use Rattle.message_log.specs.declared.entry.OutEntry.{OutEntry}
-use Rattle.resend_plan.specs.declared.item.Names2.{Names2}
-use Rattle.resend_plan.specs.declared.item.WireItem.{WireItem}
+use Rattle.session_book.specs.OutEntry.{OutEntry}
+use Rattle.session_book.specs.Names2.{Names2}
+use Rattle.session_book.specs.WireItem.{WireItem}
 use Rattle.session_core.specs.Receive.{after_receive, receive}
 use Rattle.session_core.specs.Tick.{after_tick, tick}
 use Rattle.session_core.specs.declared.acts.Act.{Act}

@@ -2,8 +2,8 @@
 use Rattle.std.specs.Prelude.{◌≡◌, ℕ, List, [], ◌∷◌, ◌++◌, Option, None, Some, slice_index_or, slice_set}
 use Rattle.connection_core.specs.Connection.{ConnectionState, fresh}
 use Rattle.connection_core.specs.Outgoing.{Outgoing, Outlet, no_outgoing}
-use Rattle.resend_plan.specs.declared.item.Names2.{Names2}
-use Rattle.seq_gaps.specs.Line.{fresh_line}
+use Rattle.session_book.specs.Names2.{Names2}
+use Rattle.session_book.specs.Line.{fresh_line}
 use Rattle.session_core.specs.State.{new_state}
 use Rattle.session_book.specs.Book.{Book, Desk, with_outbox}
 use Rattle.session_book.specs.Kept.{Kept}

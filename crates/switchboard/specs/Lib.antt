@@ -6,3 +6,8 @@ pub mod Going
 pub mod Told
 pub mod Brought
 pub mod Stops
+pub use Rattle.connection_core.specs.Outgoing
+pub use Rattle.connection_core.specs.Connection
+pub use Rattle.session_book.specs.Book
+pub use Rattle.session_book.specs.Kept
+pub use Rattle.session_book.specs.Acts

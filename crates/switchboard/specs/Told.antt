@@ -1,7 +1,7 @@
 -- What was handled of the sessions' connections and sent for their libraries, as the happenings have it, and that the journals tell the same.
 use Rattle.std.specs.Prelude.{ℕ, ◌<◌, ◌≤◌, ◌==◌, if◌then◌else◌, length, List, [], ◌∷◌, ◌++◌}
 use Rattle.lease_core.specs.declared.entry.Entry.{Entry}
-use Rattle.message_log.specs.declared.entry.OutEntry.{OutEntry}
+use Rattle.session_book.specs.OutEntry.{OutEntry}
 use Rattle.session_core.specs.State.{State}
 use Rattle.session_book.specs.Moments.{IsTimedRun}
 use Rattle.session_book.specs.Runs.{Handled, handled_of, with_body}

@@ -30,7 +30,7 @@ impl Model for Switchboard {
     ghost use Rattle.std.specs.Prelude.{◌≡◌, length};
     ghost use Rattle.switchboard.specs.Board.{Board};
     ghost use Rattle.std.specs.Coded.{codes};
-    ghost use Rattle.seq_gaps.specs.Line.{line_code};
+    ghost use Rattle.session_book.specs.Line.{line_code};
     ghost use Rattle.session_core.specs.contracts.tasks.Task as task;
 
     ghost Value = { Board };

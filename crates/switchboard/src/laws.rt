@@ -4,7 +4,7 @@ ghost use Rattle.std.specs.Prelude.{◌≡◌, ◌≢◌, ℕ, ◌<◌, ◌≤�
 ghost use Rattle.std.specs.List.{All};
 ghost use Rattle.connection_core.specs.Connection.{ConnectionState};
 ghost use Rattle.lease_core.specs.declared.entry.Entry.{Entry};
-ghost use Rattle.resend_plan.specs.Wire.{NamesEntry};
+ghost use Rattle.session_book.specs.Wire.{NamesEntry};
 ghost use Rattle.session_core.specs.Receive.{receive};
 ghost use Rattle.session_core.specs.State.{State};
 ghost use Rattle.session_core.specs.declared.causes.Cause.{Cause};

@@ -6,7 +6,7 @@ ghost use Rattle.lease_core.specs.Lines.{is_released, lines_after_reply, lines_o
 ghost use Rattle.lease_core.specs.Showable.{CanTimeOut, IsShowable};
 ghost use Rattle.lease_core.specs.State.{state_of};
 ghost use Rattle.lease_core.specs.Steps.{IsLibrary, reply_to};
-ghost use Rattle.resend_plan.specs.Fit.{IsFit};
+ghost use Rattle.session_book.specs.Fit.{IsFit};
 ghost use Rattle.session_book.specs.Acts.{after_lapse, after_request};
 ghost use Rattle.session_book.specs.Book.{next_number};
 ghost use Rattle.session_book.specs.Words.{after_timeout, after_word, shown_sends};

@@ -3,7 +3,7 @@
 ghost use Rattle.std.specs.Prelude.{◌≡◌, ◌<◌, ◌≤◌, length, take, Some, OnErr, OnOk, true, false};
 ghost use Rattle.std.specs.List.{All};
 ghost use Rattle.connection_core.specs.Outgoing.{HasMore, after_preparing, after_preparing_first, after_writing, waiting_text};
-ghost use Rattle.resend_plan.specs.Wire.{NamesEntry};
+ghost use Rattle.session_book.specs.Wire.{NamesEntry};
 ghost use Rattle.switchboard.specs.Board.{book_at, connection_at, names_at, with_connection};
 ghost use Rattle.switchboard.specs.Happenings.{Happens, prepares, writes};
 

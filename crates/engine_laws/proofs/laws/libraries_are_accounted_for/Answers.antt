@@ -1,5 +1,5 @@
 use Rattle.engine_laws.proofs.Accounting.{AccountLaws}
-use Rattle.engine_laws.proofs.Libraries.{ran_for, served}
+use Rattle.engine_laws.proofs.LibrarySteps.{ran_for, served}
 use Rattle.engine_laws.proofs.laws.libraries_are_accounted_for.Goals as goal
 
 laws : goal.After-happenings_are_accounted_for → AccountLaws

@@ -5,7 +5,7 @@ use Rattle.gate_io.specs.MemWire.{link_at}
 use Rattle.headline.proofs.MeetsHeadline.{HeadlineLaws, meets_headline}
 use Rattle.headline.proofs.laws.headlines_hold.Goals as goal
 use Rattle.headline.specs.Numbering.{AreInOrder}
-use Rattle.run_laws.specs.Accounted.{first_machines, no_entries}
+use Rattle.headline.specs.runs.Accounted.{first_machines, no_entries}
 use Rattle.script_run.specs.Means.{report_of, seat_of}
 use Rattle.session_book.specs.Book.{Book}
 

@@ -4,7 +4,7 @@ use Rattle.engine_laws.specs.Account.{all_done}
 use Rattle.gate_io.specs.declared.clocks.TheConstants.{LAST_MOMENT}
 use Rattle.headline.proofs.InPartRuns.{PartLaws, means_in_part, serves_in_part}
 use Rattle.headline.proofs.laws.headlines_hold_in_part.Goals as goal
-use Rattle.run_laws.specs.Accounted.{first_machines, no_entries}
+use Rattle.headline.specs.runs.Accounted.{first_machines, no_entries}
 use Rattle.script_run.specs.Means.{first_moment}
 use Rattle.switchboard.specs.Ready.{entries_of}
 

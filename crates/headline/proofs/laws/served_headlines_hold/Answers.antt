@@ -22,10 +22,10 @@ use Rattle.headline.specs.Headline.{Headline}
 use Rattle.headline.specs.LogonsFirst.{LogonsComeFirst}
 use Rattle.headline.specs.Numbering.{AreInOrder}
 use Rattle.lease_core.specs.declared.entry.Entry.{Entry}
-use Rattle.run_laws.specs.Accounted.{first_machines, no_entries}
+use Rattle.headline.specs.runs.Accounted.{first_machines, no_entries}
 use Rattle.run_report.specs.declared.records.RunRecord.{RunRecord}
 use Rattle.script_text.specs.declared.steps.Script.{Script}
-use Rattle.serve_laws.specs.Served.{AnyReadings, IsServedRecord}
+use Rattle.headline.specs.serving.Served.{AnyReadings, IsServedRecord}
 use Rattle.serve_run.specs.Drives.{Drive, drive_of}
 use Rattle.serve_run.specs.Serves.{Serves, connections_of}
 use Rattle.session_core.specs.State.{State}

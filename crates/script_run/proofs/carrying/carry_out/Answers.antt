@@ -2,7 +2,8 @@ use Rattle.std.proofs.Common.{◌≡◌, ◌⊎◌, inr, ℕ, ◌≤◌, List, a
 use Rattle.std.proofs.lemmas.Result.{IfErr-weaker}
 use Rattle.gate_io.specs.declared.clocks.TheConstants.{LAST_MOMENT}
 use Rattle.script_run.specs.Means.{LeadsTo, Means, StartsRun, first_moment}
-use Rattle.script_run.specs.Stops.{LeadsInPart, MeansInPart, no_run}
+use Rattle.run_report.specs.Records.{no_run}
+use Rattle.script_run.specs.Stops.{LeadsInPart, MeansInPart}
 use Rattle.script_run.proofs.Moments.{first_within}
 use Rattle.script_run.proofs.Seated.{if_ok}
 use Rattle.script_text.specs.SoFar.{first_numbers}

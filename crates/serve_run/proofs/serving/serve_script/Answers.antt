@@ -7,7 +7,7 @@ use Rattle.gate_io.specs.Clock.{TakesReadings}
 use Rattle.run_report.specs.declared.records.RunRecord.{RunRecord}
 use Rattle.script_text.specs.declared.steps.Step.{Step}
 use Rattle.serve_run.specs.Drives.{DrivesToEnd}
-use Rattle.script_run.specs.Means.{StartsEngineOf}
+use Rattle.engine_loop.specs.Starts.{StartsEngineOf}
 use Rattle.serve_run.specs.Serves.{Concludes}
 use Rattle.serve_run.specs.Stops.{LeavesInPart}
 use Rattle.serve_run.specs.Workers.{StartsWorkers}

@@ -1,7 +1,7 @@
 -- each message's text, by the lemmas on texts
 use Rattle.std.proofs.Common.{ℕ, ◌≤◌, List, length, ap, subst, sym, ◌∙◌}
 use Rattle.std.proofs.lemmas.Result.{IfOk-weaker}
-use Rattle.fix_frame.specs.Frame.{IsBody}
+use Rattle.fix_fields.specs.Frame.{IsBody}
 use Rattle.session_core.specs.Admin.{is_tick_text}
 use Rattle.session_core.specs.Tasks.{HasShortTexts, is_tick}
 use Rattle.session_core.specs.declared.acts.Admin.TheVariants.{Logon, Heartbeat, TestRequest, ResendRequest, Reject, Logout}

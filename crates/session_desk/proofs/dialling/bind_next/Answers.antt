@@ -1,6 +1,6 @@
 use Rattle.std.proofs.Common.{List, Some, get_or, length, refl, ap, ◌∙◌}
 use Rattle.std.proofs.lemmas.List.{get_or-set_other, length-set}
-use Rattle.connection_core.specs.Outgoing.{no_outgoing}
+use Rattle.switchboard.specs.Outgoing.{no_outgoing}
 use Rattle.session_book.specs.Book.{with_outbox}
 use Rattle.session_book.specs.Kept.{Kept}
 use Rattle.switchboard.specs.Board.{book_at, desk_with, no_session, session_at}

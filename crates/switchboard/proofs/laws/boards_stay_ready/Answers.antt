@@ -8,7 +8,7 @@ use Rattle.switchboard.proofs.TextLaws.{TextLaws}
 use Rattle.switchboard.proofs.laws.boards_stay_ready.Goals as goal
 
 -- what is known of a library's sends tells which entries came
-go_on : (old : List Entry) (new : Book) {sends : List Rattle.message_log.specs.declared.entry.OutEntry.OutEntry} → AreSendsOf 0 old sends new → GoOnFrom old new.entries
+go_on : (old : List Entry) (new : Book) {sends : List Rattle.session_book.specs.OutEntry.OutEntry} → AreSendsOf 0 old sends new → GoOnFrom old new.entries
 go_on old new are = record { added = are.added; are = are.entries_are }
 
 laws : goal.After-items_stay_queued → TextLaws

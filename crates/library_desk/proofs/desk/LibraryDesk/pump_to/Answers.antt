@@ -1,6 +1,6 @@
-use Rattle.std.proofs.Common.{ap, arith, refl, sym, ◌∙◌}
+use Rattle.std.proofs.Common.{ap, arith, refl, ◌∙◌}
 use Rattle.std.specs.Vec.{with_item}
-use Rattle.session_book.specs.Kept.{Kept}
+use Rattle.switchboard.specs.Kept.{Kept}
 use Rattle.library_desk.proofs.Links.{ends_linked}
 use Rattle.library_desk.proofs.Pumped.{pumped}
 use Rattle.library_desk.proofs.desk.LibraryDesk.pump_to.Goals as goal
@@ -30,6 +30,6 @@ returns-clause-pumps c =
     let many = c.requires.ready.cursors.count in
     pumped c.args.library c.args.s c.from-place.result old (record old { ends = with_item old.ends c.from-place.result after; cursors = with_item old.cursors c.args.s c.pump.new.cursor }) before after c.index_mut.result.now c.pump.new.cursor c.inbound.result.now.items c.in_ok-pump.field-0.stop
     c.from-place.ensures (let place = c.from-place.ensures in omega arith) (omega arith)
-    (sym (c.requires.owners c.args.s c.requires.session) ∙ sym c.owner.ensures ∙ c.if-owner-library.false)
+    c.requires.owner
     (c.inbound.ensures ∙ ap (λ (k : Kept). k.book.inbound) c.session-session.ensures)
     c.index_mut-2.ensures.value c.index_mut.ensures.value news.cursor news.forward news.within news.pushed refl news.log_end news.ring_full refl refl refl

@@ -1,6 +1,6 @@
 use Rattle.std.proofs.Common.{length, ap, arith, set, sym, subst}
 use Rattle.lease_desk.specs.Desk.{IsGrant, OnGranted}
-use Rattle.session_book.specs.Book.{Book}
+use Rattle.switchboard.specs.Book.{Book}
 use Rattle.library_desk.specs.Serving.{AreCursors}
 use Rattle.library_desk.proofs.Cursors.{granted_cursors, refused_cursors}
 use Rattle.library_desk.proofs.desk.LibraryDesk.reply.Goals as goal

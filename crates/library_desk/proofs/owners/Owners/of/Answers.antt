@@ -2,7 +2,7 @@ use Rattle.std.proofs.Common.{ap, arith, ◌∙◌}
 use Rattle.std.proofs.lemmas.List.{length-set}
 use Rattle.lease_core.specs.State.{owner_of, state_of}
 use Rattle.lease_desk.specs.Desk.{owner_at}
-use Rattle.session_book.specs.Kept.{Kept}
+use Rattle.switchboard.specs.Kept.{Kept}
 use Rattle.library_desk.proofs.Owned.{one_more}
 use Rattle.library_desk.proofs.owners.Owners.of.Goals as goal
 

@@ -1,4 +1,0 @@
-pub mod Waited
-pub mod TakenBack
-pub mod Kept
-pub mod Wrong

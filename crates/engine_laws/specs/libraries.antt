@@ -1,0 +1,5 @@
+-- What libraries ask, are told and send, over turns.
+pub mod Feeds
+pub mod Replies
+pub mod Sends
+pub mod Spans

@@ -1,0 +1,20 @@
+-- What a script that is carried out leaves.
+pub mod Asked
+pub mod Borne
+pub mod Calls
+pub mod Carried
+pub mod Deeds
+pub mod Engines
+pub mod Given
+pub mod GoingOn
+pub mod Grants
+pub mod Lived
+pub mod Numbers
+pub mod Open
+pub mod Places
+pub mod Seats
+pub mod Settled
+pub mod Sides
+pub mod Starts
+pub mod Told
+pub mod Wires

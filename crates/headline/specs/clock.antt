@@ -1,0 +1,5 @@
+-- What the clock had told.
+pub mod Waited
+pub mod TakenBack
+pub mod Kept
+pub mod Wrong

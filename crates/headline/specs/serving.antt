@@ -1,0 +1,3 @@
+-- What a script that is served leaves.
+pub mod Driven
+pub mod Served

@@ -1,7 +1,0 @@
-use Rattle.library_laws.proofs.Stays.{happening_keeps}
-use Rattle.library_laws.proofs.laws.replies_stay.Goals as goal
-
-pub returns : goal.returns
-returns c = record {
-  happening = happening_keeps (record { desk = c.others_stay.ensures.desk; plug = c.others_stay.ensures.plug; session = c.others_stay.ensures.session; goes_on = c.boards_go_on.ensures.happening });
-}

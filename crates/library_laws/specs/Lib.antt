@@ -1,4 +1,0 @@
-pub mod Feeds
-pub mod Replies
-pub mod Sends
-pub mod Spans

@@ -1,6 +1,0 @@
-pub mod Sides
-pub mod Deeds
-pub mod Accounted
-pub mod Lives
-pub mod Reports
-pub mod Records

@@ -1,4 +1,0 @@
-mod Planned
-mod Driven
-mod MetAll
-mod Served
