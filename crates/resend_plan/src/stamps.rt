@@ -7,8 +7,8 @@ use fix_fields::stamp_text;
 use gate_io::LAST_MOMENT;
 use std::marker::Model;
 
-/// The UTCTimestamp of the moment that was asked for last. All messages of a turn have one moment, and
-/// its text is dearer than the rest of a header.
+/// The UTCTimestamp of the moment that was asked for last, so that it isn't made again for each message
+/// of a turn. Contracts see its text.
 #[derive(Debug, Drop)]
 pub struct KeptStamp {
     at: u64,
@@ -27,7 +27,10 @@ impl Model for KeptStamp {
 }
 
 impl KeptStamp {
-    pub fn new() -> KeptStamp {
+    /// At first it has the text of the moment 0.
+    pub fn new() -> KeptStamp
+        ensures { result ≡ stamp 0 }
+    {
         KeptStamp {
             at: 0,
             text: text_at(0),
