@@ -12,7 +12,7 @@ ghost use Rattle.connection_core.specs.Items.{AreItemsOf};
 use fix_frame::{FrameError, put_frame};
 use gate_io::{Bytes, NoMemory};
 use message_log::OutLog;
-use resend_plan::{KeptStamp, Names2, WireItem, fill_wire_body};
+use resend_plan::{KeptTexts, Names2, WireItem, fill_wire_body};
 use std::alloc::Global;
 use std::collections::VecDeque;
 use std::marker::Model;
@@ -30,8 +30,8 @@ pub struct Outbox {
     unmade: VecDeque<WireItem>,
     /// The body of the item whose text was made last. It is kept for its room.
     body: Vec<u8>,
-    /// The text of the moment of the last one.
-    stamp: KeptStamp,
+    /// What it has in common with the next one.
+    kept: KeptTexts,
 }
 
 impl Model for Outbox {
@@ -60,7 +60,7 @@ impl Outbox {
             ends: VecDeque::new(alloc),
             unmade: VecDeque::new(alloc),
             body: Vec::new(alloc),
-            stamp: KeptStamp::new(),
+            kept: KeptTexts::new(alloc),
         }
     }
 
@@ -175,7 +175,7 @@ impl Outbox {
         put_text(
             &mut self.text,
             &mut self.body,
-            &mut self.stamp,
+            &mut self.kept,
             &item,
             log,
             names,
@@ -231,7 +231,7 @@ fn drop_ends(ends: &mut VecDeque<usize>, written: usize)
 fn put_text(
     text: &mut Vec<u8>,
     body: &mut Vec<u8>,
-    stamp: &mut KeptStamp,
+    kept: &mut KeptTexts,
     item: &WireItem,
     log: &OutLog,
     names: &Names2,
@@ -242,7 +242,7 @@ fn put_text(
     ensures ok { OnOk result (text.new.items ≡ text.old.items ++ item_text names.now log.now.series item.now) }
     ensures err { OnErr result (text.new.items ≡ text.old.items) }
 {
-    fill_wire_body(body, stamp, item, log, names)?;
+    fill_wire_body(body, kept, item, log, names)?;
     match put_frame(text, body) {
         Ok(()) => Ok(()),
         Err(FrameError::OutOfMemory) => Err(NoMemory::OutOfMemory),

@@ -19,6 +19,7 @@ pub fn put_field(text: &mut Vec<u8>, tag: u32, value: &[u8]) -> Result<(), NoMem
 }
 
 /// The same with a tag that is handed in as it is written, as a constant one can be.
+#[inline(always)]
 pub fn put_tagged(text: &mut Vec<u8>, tag: &[u8], value: &[u8]) -> Result<(), NoMemory>
     requires { length tag.now < 2 ^ 32 }
     ensures ok { OnOk result (text.new.items ≡ text.old.items ++ tagged_text tag.now value.now) }

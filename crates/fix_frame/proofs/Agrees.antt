@@ -1,6 +1,7 @@
 -- Bytes that pass a test in each place.
-use Rattle.std.proofs.Common.{◌≡◌, ℕ, zero, suc, ◌≤◌, Bool, true, false, ◌&&◌, List, [], ◌∷◌, ◌++◌, length, drop, replicate, refl, sym, ap, ◌∙◌, arith, eqb, eq-eqb}
+use Rattle.std.proofs.Common.{◌≡◌, ℕ, zero, suc, ◌+◌, ◌-◌, ◌≤◌, Bool, true, false, ◌&&◌, List, [], ◌∷◌, ◌++◌, length, take, drop, replicate, refl, subst, sym, ap, ◌∙◌, arith, eqb, eq-eqb}
 use Rattle.std.proofs.lemmas.Bool.{and_parts, and_from, eqb-true}
+use Rattle.std.proofs.lemmas.List.{take-append-drop, take-append-le, drop-append-le, length-drop}
 use Rattle.std.specs.List.{list_all}
 use Rattle.fix_frame.specs.Cut.{agrees, exactly}
 
@@ -49,6 +50,19 @@ agrees-exactly (c ∷ t) (b ∷ x) h e =
 pub exactly-agrees : (t x : List ℕ) → agrees (exactly t) (t ++ x) ≡ true
 exactly-agrees [] x = refl
 exactly-agrees (c ∷ t) x = and_from (eqb c c) (agrees (exactly t) (t ++ x)) (eq-eqb c c refl) (exactly-agrees t x)
+
+-- bytes that begin with a text, as a slice of them is compared with it
+pub begins_agrees : (t x : List ℕ) → take (length t) x ≡ t → agrees (exactly t) x ≡ true
+begins_agrees t x e =
+    let parts : t ++ drop (length t) x ≡ x = ap (λ (y : List ℕ). y ++ drop (length t) x) (sym e) ∙ take-append-drop (length t) x in
+    subst (λ (y : List ℕ). agrees (exactly t) y ≡ true) parts (exactly-agrees t (drop (length t) x))
+
+-- a text that stands in the first of two slices
+pub stands_in_front : (t front back : List ℕ) (at : ℕ) → at + length t ≤ length front → take (length t) (drop at front) ≡ t → take (length t) (drop at (front ++ back)) ≡ t
+stands_in_front t front back at h e =
+    let behind : drop at (front ++ back) ≡ drop at front ++ back = drop-append-le at front back (omega (arith, h)) in
+    let size : length (drop at front) ≡ length front - at = length-drop at front in
+    ap (take (length t)) behind ∙ (take-append-le (length t) (drop at front) back (omega (arith, h, size)) ∙ e)
 
 -- bytes that begin a text
 pub exactly-short : (t x : List ℕ) → length x ≤ length t → agrees (exactly t) x ≡ true → t ≡ x ++ drop (length x) t

@@ -75,7 +75,16 @@ fn behind_head(held: &TwoSlices, body: usize, size: usize) -> Front
 }
 
 /// Whether the bytes from `at` on agree with the text, as far as both go.
+#[tactic(auto, using(crate::proofs::Agrees::begins_agrees))]
 fn agrees(held: &TwoSlices, at: usize, text: &[u8]) -> bool
+    requires { at + length text.now < 2 ^ 64 }
+    ensures { result ≡ agrees (exactly text.now) (drop at held.now) }
+{
+    held.has_in_front(at, text) || agrees_by_bytes(held, at, text)
+}
+
+/// The same, where they may go on in the other slice, or end.
+fn agrees_by_bytes(held: &TwoSlices, at: usize, text: &[u8]) -> bool
     requires { at + length text.now < 2 ^ 64 }
     ensures { result ≡ agrees (exactly text.now) (drop at held.now) }
 {

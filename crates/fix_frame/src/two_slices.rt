@@ -1,6 +1,6 @@
 //! Bytes in order that lie in two slices.
 
-ghost use Rattle.std.specs.Prelude.{◌≡◌, ◌<◌, ◌++◌, length, slice_index};
+ghost use Rattle.std.specs.Prelude.{◌≡◌, ◌+◌, ◌^◌, ◌<◌, ◌++◌, IsTrue, drop, length, slice_index, take};
 
 use std::marker::Model;
 
@@ -41,5 +41,13 @@ impl<'a> TwoSlices<'a> {
         } else {
             self.back[i - self.front.len()]
         }
+    }
+
+    /// Whether the front has this text from `at` on.
+    pub(crate) fn has_in_front(&self, at: usize, text: &[u8]) -> bool
+        requires { at + length text.now < 2 ^ 64 }
+        ensures { IsTrue result → take (length text.now) (drop at self.now) ≡ text.now }
+    {
+        at + text.len() <= self.front.len() && self.front[at..at + text.len()] == text[..]
     }
 }

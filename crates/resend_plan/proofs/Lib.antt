@@ -6,3 +6,4 @@ pub mod Bodies
 pub mod Answering
 pub mod Texts
 pub mod Staying
+pub mod Heads

@@ -32,6 +32,10 @@ unfoldable pub times : ℕ → Option ℕ → List ℕ
 times at None = field_of 52 (stamp at)
 times at (Some original) = field_of 43 (codes "Y") ++ field_of 52 (stamp at) ++ field_of 122 (stamp original)
 
+-- SenderCompID (49) and TargetCompID (56), and behind them the tag of MsgSeqNum (34); 61 is the code of `=`
+unfoldable pub parties : Names2 → List ℕ
+parties names = field_of 49 names.us ++ field_of 56 names.them ++ (decimal 34 ++ (61 ∷ []))
+
 -- type, SenderCompID (49), TargetCompID (56) and MsgSeqNum (34)
 unfoldable pub header : Names2 → List ℕ → ℕ → List ℕ
 header names kind number =

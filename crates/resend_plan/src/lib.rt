@@ -6,14 +6,16 @@
 #![tactic(auto)]
 
 mod item;
+mod kept;
 mod laws;
+mod names;
 mod planning;
 mod stamps;
 mod wire;
 
 pub use fix_fields::{LONGEST_APPLICATION_BODY, LONGEST_NAME};
 pub use item::{LONGEST_GAP_FILL, LONGEST_HEADER, Names2, WireItem};
+pub use kept::KeptTexts;
 pub use laws::{items_stay, logs_stay_fit, plans_answer, texts_are_bodies};
 pub use planning::plan;
-pub use stamps::KeptStamp;
 pub use wire::{fill_wire_body, wire_body};

@@ -7,6 +7,8 @@ ghost use Rattle.resend_plan.specs.Fit.{AreShort, HasFitBodies, HasFrameBody, Ha
 ghost use Rattle.resend_plan.specs.Wire.{NamesEntry, body_of, type_field, behind_type, times, stamp, header, message, reset_type, field_of};
 
 use crate::item::{Names2, WireItem};
+use crate::kept::KeptTexts;
+use crate::names::KeptNames;
 use crate::stamps::KeptStamp;
 use fix_fields::{put_field, put_tagged};
 use fix_frame::LONGEST_FRAME;
@@ -37,7 +39,7 @@ pub fn wire_body(
         → IfOk result (λ body. IsBody body.items × (length (frame_of body.items) ≤ LONGEST_FRAME)) }
 {
     let mut body = Vec::with_capacity(alloc, ROOM)?;
-    let mut kept = KeptStamp::new();
+    let mut kept = KeptTexts::new(alloc);
     fill_item_body(&mut body, &mut kept, item, log, names)?;
     Ok(body)
 }
@@ -46,7 +48,7 @@ pub fn wire_body(
 /// memory it may hold anything.
 pub fn fill_wire_body(
     body: &mut Vec<u8>,
-    kept: &mut KeptStamp,
+    kept: &mut KeptTexts,
     item: &WireItem,
     log: &OutLog,
     names: &Names2,
@@ -62,7 +64,7 @@ pub fn fill_wire_body(
 
 fn fill_item_body(
     body: &mut Vec<u8>,
-    kept: &mut KeptStamp,
+    kept: &mut KeptTexts,
     item: &WireItem,
     log: &OutLog,
     names: &Names2,
@@ -88,7 +90,7 @@ fn fill_item_body(
 
 fn fill_entry_body(
     body: &mut Vec<u8>,
-    kept: &mut KeptStamp,
+    kept: &mut KeptTexts,
     names: &Names2,
     entry: &OutEntry,
     number: u64,
@@ -99,8 +101,8 @@ fn fill_entry_body(
         (times at original) (behind_type entry.now.body)) }
 {
     let (kind, rest) = split_type(entry.body.as_slice());
-    fill_header(body, names, kind, number)?;
-    push_times(body, kept, at, original)?;
+    fill_header(body, &mut kept.names, names, kind, number)?;
+    push_times(body, &mut kept.stamp, at, original)?;
     body.extend_from_slice(rest)?;
     Ok(())
 }
@@ -108,7 +110,7 @@ fn fill_entry_body(
 /// A SequenceReset that fills a gap, from a number on and up to the next number behind it.
 fn fill_reset_body(
     body: &mut Vec<u8>,
-    kept: &mut KeptStamp,
+    kept: &mut KeptTexts,
     names: &Names2,
     number: u64,
     to: u64,
@@ -118,24 +120,30 @@ fn fill_reset_body(
         (times at (Some at)) (field_of 123 (codes "Y") ++ field_of 36 (decimal to))) }
 {
     let mut digits = Buffer::new();
-    fill_header(body, names, b"35=4\x01", number)?;
-    push_times(body, kept, at, Some(at))?;
+    fill_header(body, &mut kept.names, names, b"35=4\x01", number)?;
+    push_times(body, &mut kept.stamp, at, Some(at))?;
     put_field(body, 123, b"Y")?;
     put_field(body, 36, digits.format(to).as_bytes())?;
     Ok(())
 }
 
 /// The type field, and the fields up to the number, in place of what the body held.
-#[tactic(auto, unfolding(crate::specs::Wire::header))]
-fn fill_header(body: &mut Vec<u8>, names: &Names2, kind: &[u8], number: u64) -> Result<(), NoMemory>
+fn fill_header(
+    body: &mut Vec<u8>,
+    kept: &mut KeptNames,
+    names: &Names2,
+    kind: &[u8],
+    number: u64,
+) -> Result<(), NoMemory>
     ensures { OnOk result (body.new.items ≡ header names.now kind.now number) }
 {
     let mut digits = Buffer::new();
+    kept.keep(names)?;
     body.clear();
     body.extend_from_slice(kind)?;
-    put_tagged(body, b"49", names.us.as_slice())?;
-    put_tagged(body, b"56", names.them.as_slice())?;
-    put_tagged(body, b"34", digits.format(number).as_bytes())?;
+    body.extend_from_slice(kept.text())?;
+    body.extend_from_slice(digits.format(number).as_bytes())?;
+    body.push(SOH)?;
     Ok(())
 }
 

@@ -1,18 +1,6 @@
--- The tags are written as their two digits.
-use Rattle.std.proofs.Common.{◌≡◌, codes, decimal, arith, refl}
-use Rattle.itoa.proofs.Decimal.{decimal_two}
-use Rattle.resend_plan.specs.Wire.{header}
+-- The names and the tag of the number are those that are kept.
+use Rattle.resend_plan.proofs.Heads.{header_by_parts}
 use Rattle.resend_plan.proofs.wire.fill_header.Goals as goal
 
-sender : decimal 49 ≡ codes "49"
-sender = decimal_two 49 (omega arith) (omega arith)
-
-target : decimal 56 ≡ codes "56"
-target = decimal_two 56 (omega arith) (omega arith)
-
-number : decimal 34 ≡ codes "34"
-number = decimal_two 34 (omega arith) (omega arith)
-
 pub returns : goal.returns
-unfolding header
-returns c = rw (sender, target, number, c.in_ok-put_tagged-3.ensures.ok, c.in_ok-put_tagged-2.ensures.ok, c.in_ok-put_tagged.ensures.ok, c.in_ok-extend_from_slice.ensures.items, c.clear.ensures.items, c.as_slice.ensures, c.as_slice-2.ensures, c.as_bytes.ensures.value, c.format.ensures.text) refl
+returns c = rw (c.in_ok-push.ensures.items, c.in_ok-extend_from_slice-3.ensures.items, c.in_ok-extend_from_slice-2.ensures.items, c.in_ok-extend_from_slice.ensures.items, c.clear.ensures.items, c.text.ensures, c.in_ok-keep.ensures, c.as_bytes.ensures.value, c.format.ensures.text) (header_by_parts c.args.names.now c.args.kind.now c.args.number)

@@ -1,6 +1,6 @@
 use Rattle.std.proofs.Common.{◌≡◌, ◌+◌, drop}
 use Rattle.fix_frame.specs.Cut.{agrees, exactly}
-use Rattle.fix_frame.proofs.look.agrees.Given as goal
+use Rattle.fix_frame.proofs.look.agrees_by_bytes.Given as goal
 
 -- what is left of the text and of the bytes decides
 abbrev pub invariant-loop-k : goal.invariant-loop-k

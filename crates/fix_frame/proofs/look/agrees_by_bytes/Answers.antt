@@ -1,7 +1,7 @@
 use Rattle.std.proofs.Common.{◌+◌, drop, sym, ◌∙◌, arith}
 use Rattle.fix_frame.specs.Cut.{exactly}
 use Rattle.fix_frame.proofs.Places.{agrees-past}
-use Rattle.fix_frame.proofs.look.agrees.Goals as goal
+use Rattle.fix_frame.proofs.look.agrees_by_bytes.Goals as goal
 
 pub returns-then-at-k : goal.returns-then-at-k
 returns-then-at-k c =
