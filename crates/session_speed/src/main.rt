@@ -10,6 +10,7 @@ ghost use Rattle.session_speed.specs.Market.{IsOpen};
 
 mod market;
 mod texts;
+mod trouble;
 
 use anyhow::{Context, bail};
 use market::{Answerer, open, take_session};
@@ -18,6 +19,7 @@ use std::env;
 use std::time::{Clock, Instant};
 use switchboard::Switchboard;
 use texts::{LOGON, ORDER, REPORT, put_message};
+use trouble::Trouble;
 
 const FEW: u64 = 2_000;
 
@@ -39,7 +41,7 @@ fn bring(
     board: &mut Switchboard,
     answerer: &mut Answerer,
     input: &[u8],
-) -> Result<(), anyhow::Error>
+) -> Result<(), Trouble>
     requires market { IsOpen board.old }
     ensures market { OnOk result (IsOpen board.new) }
 {

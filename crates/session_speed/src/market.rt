@@ -11,7 +11,7 @@ ghost use Rattle.switchboard.specs.Sound.{bound_of};
 ghost use Rattle.session_speed.specs.Market.{IsOpen};
 
 use crate::texts::{MORNING, REPORT};
-use anyhow::bail;
+use crate::trouble::Trouble;
 use book_desk::can_show;
 use connection_core::{MOST_WRITTEN, OwnedPiece};
 use fix_fields::{FieldError, Fields};
@@ -48,14 +48,14 @@ fn markets_stay_open()
 }
 
 /// Library 1 gets the session.
-pub fn take_session(board: &mut Switchboard) -> Result<(), anyhow::Error>
+pub fn take_session(board: &mut Switchboard) -> Result<(), Trouble>
     requires market { IsOpen board.old }
     ensures market { OnOk result (IsOpen board.new) }
 {
     markets_stay_open();
     let reply = board.request(0, 1, 1, 0)?;
     if !matches!(reply, Reply::Granted { .. }) {
-        bail!("the session was not granted");
+        return Err(Trouble::NotGranted);
     }
     Ok(())
 }
@@ -92,7 +92,7 @@ impl Answerer {
         alloc: Global,
         board: &mut Switchboard,
         bytes: &[u8],
-    ) -> Result<(), anyhow::Error>
+    ) -> Result<(), Trouble>
         requires market { IsOpen board.old }
         ensures market { OnOk result (IsOpen board.new) }
     {
@@ -106,13 +106,13 @@ impl Answerer {
     }
 
     /// Handles the next piece, if there is one.
-    fn handle_next(&mut self, alloc: Global, board: &mut Switchboard) -> Result<bool, anyhow::Error>
+    fn handle_next(&mut self, alloc: Global, board: &mut Switchboard) -> Result<bool, Trouble>
         requires market { IsOpen board.old }
         ensures market { OnOk result (IsOpen board.new) }
     {
         match next(alloc, board)? {
             None => Ok(false),
-            Some(OwnedPiece::Garbled { length }) => bail!("{length} bytes are garbled"),
+            Some(OwnedPiece::Garbled { .. }) => Err(Trouble::Garbled),
             Some(OwnedPiece::Good(body)) => {
                 self.handle(alloc, board, body)?;
                 Ok(true)
@@ -126,7 +126,7 @@ impl Answerer {
         alloc: Global,
         board: &mut Switchboard,
         body: Vec<u8>,
-    ) -> Result<(), anyhow::Error>
+    ) -> Result<(), Trouble>
         requires market { IsOpen board.old }
         ensures market { OnOk result (IsOpen board.new) }
     {
@@ -143,23 +143,23 @@ impl Answerer {
         alloc: Global,
         board: &mut Switchboard,
         body: Vec<u8>,
-    ) -> Result<(), anyhow::Error>
+    ) -> Result<(), Trouble>
         requires market { IsOpen board.old }
         ensures market { OnOk result (IsOpen board.new) }
     {
         let connection = board.connection(0);
         if connection.has_ended() || connection.session().is_some() {
-            bail!("the connection can't be bound");
+            return Err(Trouble::NotBound);
         }
         let names = self.names.as_slice();
         if board.session(0).bound().is_some() || why_refused(alloc, &body, names)?.is_some() {
-            bail!("the session can't be bound");
+            return Err(Trouble::NotBound);
         }
         bind(alloc, board, names, body)
     }
 
     /// A report is shown, and waits on the connection.
-    fn report(&mut self, alloc: Global, board: &mut Switchboard) -> Result<(), anyhow::Error>
+    fn report(&mut self, alloc: Global, board: &mut Switchboard) -> Result<(), Trouble>
         requires market { IsOpen board.old }
         ensures market { OnOk result (IsOpen board.new) }
     {
@@ -173,10 +173,10 @@ impl Answerer {
         };
         let book = board.session(0);
         if !can_show(book, w) || w.count.saturating_sub(book.word().count) != 1 {
-            bail!("the report can't be shown");
+            return Err(Trouble::NotShown);
         }
         if !is_body(REPORT) || REPORT.len() > LONGEST_APPLICATION_BODY {
-            bail!("the report can't be sent");
+            return Err(Trouble::NotShown);
         }
         board.reserve(alloc, 0, 3)?;
         let body = Vec::from_slice(alloc, REPORT)?;
@@ -187,7 +187,7 @@ impl Answerer {
     }
 
     /// What waits is written.
-    fn write(&mut self, alloc: Global, board: &mut Switchboard) -> Result<(), anyhow::Error>
+    fn write(&mut self, alloc: Global, board: &mut Switchboard) -> Result<(), Trouble>
         requires market { IsOpen board.old }
         ensures market { OnOk result (IsOpen board.new) }
     {
@@ -199,47 +199,47 @@ impl Answerer {
 }
 
 /// Bytes come, if the connection stands and has room for them.
-fn take_in(board: &mut Switchboard, bytes: &[u8]) -> Result<(), anyhow::Error>
+fn take_in(board: &mut Switchboard, bytes: &[u8]) -> Result<(), Trouble>
     requires market { IsOpen board.old }
     ensures market { OnOk result (IsOpen board.new) }
 {
     markets_stay_open();
     let connection = board.connection(0);
     if connection.has_ended() || bytes.len() > connection.room() {
-        bail!("the bytes can't be taken in");
+        return Err(Trouble::NoRoom);
     }
     board.take_in(0, bytes)?;
     Ok(())
 }
 
 /// The next piece, if there is one and the connection stands.
-fn next(alloc: Global, board: &mut Switchboard) -> Result<Option<OwnedPiece>, anyhow::Error>
+fn next(alloc: Global, board: &mut Switchboard) -> Result<Option<OwnedPiece>, Trouble>
     requires market { IsOpen board.old }
     ensures market { OnOk result (IsOpen board.new) }
 {
     markets_stay_open();
     if board.connection(0).has_ended() {
-        bail!("the connection ended");
+        return Err(Trouble::Ended);
     }
     let piece = board.next(alloc, 0)?;
     Ok(piece)
 }
 
 /// A message comes on the connection to which the session is bound.
-fn hear(alloc: Global, board: &mut Switchboard, body: Vec<u8>) -> Result<(), anyhow::Error>
+fn hear(alloc: Global, board: &mut Switchboard, body: Vec<u8>) -> Result<(), Trouble>
     requires market { IsOpen board.old }
     ensures market { OnOk result (IsOpen board.new) }
 {
     ready_boards_allow();
     markets_stay_open();
     let Some(k) = board.place(0) else {
-        bail!("the session is not bound");
+        return Err(Trouble::NotBound);
     };
     let end = board.receive(alloc, 0, k, body, MORNING)?;
-    if let Some(cause) = end {
-        bail!("the connection ends: {cause:?}");
+    match end {
+        None => Ok(()),
+        Some(_) => Err(Trouble::Ended),
     }
-    Ok(())
 }
 
 /// The session is bound to the connection.
@@ -248,7 +248,7 @@ fn bind(
     board: &mut Switchboard,
     _names: &[Names],
     body: Vec<u8>,
-) -> Result<(), anyhow::Error>
+) -> Result<(), Trouble>
     requires market { IsOpen board.old }
     requires logon { is_logon _names.now body.items ≡ true }
     requires stands { IsNone (connection_at board.old 0).cause }
@@ -260,19 +260,19 @@ fn bind(
     let end = board.bind(alloc, 0, 0, body, MORNING)?;
     match end {
         None => Ok(()),
-        Some(cause) => bail!("the Logon ends the connection: {cause:?}"),
+        Some(_) => Err(Trouble::Ended),
     }
 }
 
 /// The texts of what waits are made.
-fn prepare(board: &mut Switchboard) -> Result<(), anyhow::Error>
+fn prepare(board: &mut Switchboard) -> Result<(), Trouble>
     requires market { IsOpen board.old }
     ensures market { OnOk result (IsOpen board.new) }
 {
     ready_boards_allow();
     markets_stay_open();
     let Some(k) = board.place(0) else {
-        bail!("the session is not bound");
+        return Err(Trouble::NotBound);
     };
     board.prepare(0, k, MOST_WRITTEN)?;
     Ok(())
