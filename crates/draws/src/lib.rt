@@ -48,4 +48,21 @@ impl Draw {
         let room = most.saturating_sub(least).min(1_000_000) as u32;
         least.saturating_add(self.below(room.saturating_add(1)) as usize)
     }
+
+    /// Whether something happens that happens so often in a hundred.
+    pub fn chance(&mut self, percent: u32) -> bool {
+        self.below(100) < percent
+    }
+
+    /// One of a few values, 0 where there is none.
+    pub fn one_of(&mut self, values: &[u32]) -> u32 {
+        let place = self.words.next_word() as usize % values.len().max(1);
+        values.get(place).copied().unwrap_or(0)
+    }
+
+    /// One of a few texts.
+    pub fn text_of(&mut self, texts: &[&'static str]) -> &'static str {
+        let place = self.words.next_word() as usize % texts.len().max(1);
+        texts.get(place).copied().unwrap_or("")
+    }
 }
