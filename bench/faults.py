@@ -122,7 +122,7 @@ def faults_in(script):
 
 
 def main(scripts):
-    scripts = scripts or sorted([*glob.glob(f"{TOP}/examples/*.script"), *glob.glob(f"{TOP}/crates/replay_rows/data/*.script")])
+    scripts = scripts or sorted([*glob.glob(f"{TOP}/examples/*.script"), *glob.glob(f"{TOP}/crates/replay_tests/data/*.script")])
     runs, met, wrong = 0, 0, []
     with concurrent.futures.ThreadPoolExecutor(os.cpu_count()) as pool:
         for _, some, few, lines in pool.map(faults_in, scripts):

@@ -2,15 +2,16 @@
 
 ghost use Rattle.std.specs.Prelude.{◌≤◌};
 
-use crate::runs::left_by;
+use crate::reports::left_by;
+use anyhow::Result;
 use drill_maker::laws::drills_are_lawful;
 use drill_maker::{MOST_ROUNDS, drill};
+use row_text::same;
 use run_report::summary_text;
 use std::alloc::Global;
-use std::test::Fail;
 
 /// The summary of the drill of so many rounds.
-fn summary_of(alloc: Global, rounds: u32) -> Result<String, Fail>
+fn summary_of(alloc: Global, rounds: u32) -> Result<String>
     requires least { 1 ≤ rounds }
     requires most { rounds ≤ MOST_ROUNDS }
 {
@@ -22,18 +23,18 @@ fn summary_of(alloc: Global, rounds: u32) -> Result<String, Fail>
 // In each round eight orders are accepted, and four leases each send once. Each session has a Logon beside. A
 // lease reads the order of its round and the later half of those before: 1, 2, 2, 3, 3, 4, 4 of them and so on.
 
-#[test]
-fn seven_rounds(rt: HostRuntime) -> Result<(), Fail> {
+pub(crate) fn seven_rounds(alloc: Global) -> Result<()> {
     let expected = "fixgate drill 7\nsessions 8 libraries 4 connections 8\n\
         accepted 56 entries 36 leases 28 reads 76 sends 28\nend\n";
-    assert_eq!(rt; summary_of(rt.alloc(), 7)?.as_str(), expected);
-    Ok(())
+    same("summary", &summary_of(alloc, 7)?.as_str(), &expected)
 }
 
-#[test]
-fn the_longest_drill(rt: HostRuntime) -> Result<(), Fail> {
+pub(crate) fn the_longest_drill(alloc: Global) -> Result<()> {
     let expected = "fixgate drill 500\nsessions 8 libraries 4 connections 8\n\
         accepted 4000 entries 2008 leases 2000 reads 252000 sends 2000\nend\n";
-    assert_eq!(rt; summary_of(rt.alloc(), MOST_ROUNDS)?.as_str(), expected);
-    Ok(())
+    same(
+        "summary",
+        &summary_of(alloc, MOST_ROUNDS)?.as_str(),
+        &expected,
+    )
 }

@@ -3,9 +3,9 @@
 
 ghost use Rattle.std.specs.Prelude.{◌≤◌};
 
+use anyhow::Result;
 use std::alloc::Global;
 use std::fmt::Write;
-use std::test::Fail;
 
 /// How many turns the morning has.
 pub(crate) const TURNS: u32 = 22;
@@ -35,12 +35,12 @@ struct Lines {
 }
 
 impl Lines {
-    fn put(&mut self, line: &str) -> Result<(), Fail> {
+    fn put(&mut self, line: &str) -> Result<()> {
         writeln!(self.text, "{line}")?;
         Ok(())
     }
 
-    fn turn(&mut self) -> Result<(), Fail> {
+    fn turn(&mut self) -> Result<()> {
         self.turns = self.turns.saturating_add(1);
         if let Some(Fault { turn, connection }) = self.fault
             && turn == self.turns
@@ -51,13 +51,7 @@ impl Lines {
     }
 
     /// The message of a counterparty: its type, its number, and what stands behind the header.
-    fn frame(
-        &mut self,
-        from: Counterparty,
-        kind: &str,
-        number: u32,
-        rest: &str,
-    ) -> Result<(), Fail> {
+    fn frame(&mut self, from: Counterparty, kind: &str, number: u32, rest: &str) -> Result<()> {
         let (c, name) = from;
         writeln!(
             self.text,
@@ -67,7 +61,7 @@ impl Lines {
     }
 
     /// A library answers the orders that came.
-    fn answers(&mut self, library: u32, first: u32) -> Result<(), Fail>
+    fn answers(&mut self, library: u32, first: u32) -> Result<()>
         requires { first ≤ 1000 }
     {
         for _ in 0..FEW {
@@ -80,7 +74,7 @@ impl Lines {
     }
 
     /// Some orders come, from this one on.
-    fn orders(&mut self, first: u32) -> Result<(), Fail>
+    fn orders(&mut self, first: u32) -> Result<()>
         requires { first ≤ 1000 }
     {
         for order in first..first + FEW {
@@ -90,7 +84,7 @@ impl Lines {
     }
 
     /// Orders are counted from 1. Behind the Logon, order 1 is message 2.
-    fn order(&mut self, order: u32) -> Result<(), Fail>
+    fn order(&mut self, order: u32) -> Result<()>
         requires { order ≤ 2000 }
     {
         writeln!(
@@ -109,7 +103,7 @@ const BUYER: Counterparty = (0, "BUYER");
 
 const DESK: Counterparty = (1, "DESK");
 
-fn log_on(lines: &mut Lines) -> Result<(), Fail> {
+fn log_on(lines: &mut Lines) -> Result<()> {
     lines.put("session GATE BUYER\nsession GATE DESK\nlibraries 2")?;
     lines.put("at 20260105-09:30:00.000\nconnect\nconnect")?;
     lines.frame(BUYER, "A", 1, "98=0|108=30|")?;
@@ -119,7 +113,7 @@ fn log_on(lines: &mut Lines) -> Result<(), Fail> {
 }
 
 /// A library asks for BUYER's session, and gets it.
-fn request(lines: &mut Lines, library: u32, from: u32) -> Result<(), Fail> {
+fn request(lines: &mut Lines, library: u32, from: u32) -> Result<()> {
     writeln!(lines.text, "lib {library} request 0 {from}")?;
     lines.turn()?;
     writeln!(lines.text, "lib {library} poll")?;
@@ -127,7 +121,7 @@ fn request(lines: &mut Lines, library: u32, from: u32) -> Result<(), Fail> {
 }
 
 /// Orders come, and a library answers them.
-fn round(lines: &mut Lines, library: u32, first: u32) -> Result<(), Fail>
+fn round(lines: &mut Lines, library: u32, first: u32) -> Result<()>
     requires { first ≤ 1000 }
 {
     lines.orders(first)?;
@@ -139,7 +133,7 @@ fn round(lines: &mut Lines, library: u32, first: u32) -> Result<(), Fail>
 }
 
 /// The morning, with a fault or without.
-pub(crate) fn morning(alloc: Global, fault: Option<Fault>) -> Result<String, Fail> {
+pub(crate) fn morning(alloc: Global, fault: Option<Fault>) -> Result<String> {
     let mut lines = Lines {
         text: String::new(alloc),
         turns: 0,

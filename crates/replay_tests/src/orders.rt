@@ -1,8 +1,8 @@
 //! A Logon and two orders as bytes, and the report of a run in which so many of them come before the input ends.
 
+use anyhow::Result;
 use std::alloc::Global;
 use std::fmt::Write;
-use std::test::Fail;
 
 /// The frames of BUYER's Logon and of its two orders.
 pub(crate) const FRAMES: &str =
@@ -45,7 +45,7 @@ const WROTE: [Line; 1] = [(
     " wrote 8=FIX.4.4|9=64|35=A|49=GATE|56=BUYER|34=1|52=20260105-09:30:00.000|98=0|108=30|10=148|\n",
 )];
 
-fn put_lines(out: &mut String, lines: &[Line], came: usize) -> Result<(), Fail> {
+fn put_lines(out: &mut String, lines: &[Line], came: usize) -> Result<()> {
     for (from, line) in lines {
         if came >= *from {
             out.push_str(line)?;
@@ -56,7 +56,7 @@ fn put_lines(out: &mut String, lines: &[Line], came: usize) -> Result<(), Fail> 
 
 /// The report of a run with one library that does nothing, in which the first so many of the bytes came, and
 /// then the input ended: the Logon is answered once it is whole, and each order is accepted once it is.
-pub(crate) fn expected_report(alloc: Global, came: usize) -> Result<String, Fail> {
+pub(crate) fn expected_report(alloc: Global, came: usize) -> Result<String> {
     let orders = u8::from(came >= FIRST_ORDER) + u8::from(came >= SECOND_ORDER);
     let (session, numbers, written) = if came >= LOGON {
         ("0", 1, LOGON)

@@ -1,10 +1,11 @@
 //! A counterparty takes nothing, and asks again and again for all that it was sent.
 
-use crate::runs::left_by_text;
+use crate::reports::left_by_text;
+use anyhow::{Context, Result};
+use row_text::same;
 use session_core::Cause;
 use std::alloc::Global;
 use std::fmt::Write;
-use std::test::Fail;
 
 const STAMP: &str = "20260105-09:30:00.000";
 
@@ -18,7 +19,7 @@ const LANE: u32 = 16;
 const REQUESTS: u32 = 40;
 
 /// BUYER logs on, and library 1 gets the session.
-fn put_beginning(text: &mut String) -> Result<(), Fail> {
+fn put_beginning(text: &mut String) -> Result<()> {
     text.push_str("session GATE BUYER\nlibraries 1\nat 20260105-09:30:00.000\nconnect\n")?;
     writeln!(
         text,
@@ -29,7 +30,7 @@ fn put_beginning(text: &mut String) -> Result<(), Fail> {
 }
 
 /// All reports are sent and written.
-fn put_reports(text: &mut String) -> Result<(), Fail> {
+fn put_reports(text: &mut String) -> Result<()> {
     for report in 1..=REPORTS {
         writeln!(text, "lib 1 send 0 35=8|37=O{report}|")?;
         if report % LANE == 0 {
@@ -40,7 +41,7 @@ fn put_reports(text: &mut String) -> Result<(), Fail> {
 }
 
 /// The message of this number asks for all of them.
-fn put_request(text: &mut String, number: u32) -> Result<(), Fail> {
+fn put_request(text: &mut String, number: u32) -> Result<()> {
     writeln!(
         text,
         "frame 0 35=2|49=BUYER|56=GATE|34={number}|52={STAMP}|7=2|16=0|"
@@ -51,8 +52,8 @@ fn put_request(text: &mut String, number: u32) -> Result<(), Fail> {
     Ok(())
 }
 
-/// Why the connection ended, where it blocked and so many requests came.
-fn cause_behind(alloc: Global, requests: u32) -> Result<Option<Cause>, Fail> {
+/// The script in which the connection blocks, and so many requests come.
+fn script_of(alloc: Global, requests: u32) -> Result<String> {
     let mut text = String::new(alloc);
     put_beginning(&mut text)?;
     put_reports(&mut text)?;
@@ -61,13 +62,18 @@ fn cause_behind(alloc: Global, requests: u32) -> Result<Option<Cause>, Fail> {
         put_request(&mut text, before.saturating_add(2))?;
     }
     text.push_str("turn\nturn\n")?;
-    let left = left_by_text(alloc, text.as_str())?;
-    let connection = left.engine.connections.as_slice().first();
-    Ok(connection.ok_or("a connection")?.cause)
+    Ok(text)
 }
 
-#[test]
-fn a_connection_ends_where_too_many_items_wait(rt: HostRuntime) -> Result<(), Fail> {
+/// Why the connection ended then.
+fn cause_behind(alloc: Global, requests: u32) -> Result<Option<Cause>> {
+    let text = script_of(alloc, requests)?;
+    let left = left_by_text(alloc, text.as_bytes())?;
+    let connection = left.engine.connections.as_slice().first();
+    Ok(connection.context("a connection")?.cause)
+}
+
+pub(crate) fn a_connection_ends_where_too_many_items_wait(alloc: Global) -> Result<()> {
     // 1,048,576 items may wait.
     let waiting = 1_025 * 1_024;
     let rows = [
@@ -75,7 +81,8 @@ fn a_connection_ends_where_too_many_items_wait(rt: HostRuntime) -> Result<(), Fa
         (1_025, Some(Cause::SlowConsumer { waiting })),
     ];
     for (requests, cause) in rows {
-        assert_eq!(rt; cause_behind(rt.alloc(), requests)?, cause);
+        let found = cause_behind(alloc, requests)?;
+        same("cause", &found, &cause).context(format_args!("{requests} requests"))?;
     }
     Ok(())
 }

@@ -4,7 +4,7 @@
 //! gateway expects, orders, requests and repairs of every kind come, connections fail, the clock jumps, and libraries
 //! call what they can.
 
-use crate::draw::Draw;
+use draws::Draw;
 use std::alloc::{AllocError, Global};
 
 /// The counterparties of the sessions.
