@@ -1,20 +1,65 @@
-//! Tests of `serve` by its public call: the engine and libraries in threads of their own, over wires in memory, and
-//! every status. As a program it does nothing.
+//! Tests of `serve` by its public call: the engine and libraries in threads of their own, over wires in memory.
+//!
+//! The first argument says what is done:
+//!
+//!     checks          what no two runs may show otherwise: every status, and that nobody waits for another to end
+//!     made N SEED     serves N scripts that are made at random, the first from this seed: 10 from 1 where no number is
+//!                     said. Eight libraries ask for eight sessions, read, send, give back, hand over and fall silent,
+//!                     while eight counterparties send. No two runs go alike; the report of each has to be right
+//!     faults          serves one script again and again, and lets one read, write, accept or dial of each run fail,
+//!                     the first in the first run, the second in the second and so on; or each write takes one byte
+//!
+//! The program fails where a check fails, or where a report isn't right by the audit.
 #![tactic(auto)]
 
-#[cfg(test)]
+mod audited;
+mod checks;
+mod drowsy;
+mod faults;
+mod faulty;
+mod frames;
 mod gates;
-#[cfg(test)]
 mod handed_over;
-#[cfg(test)]
 mod held_wire;
-#[cfg(test)]
+mod made;
+mod plans;
+mod running;
+mod scripts;
 mod served;
-#[cfg(test)]
 mod side_by_side;
-#[cfg(test)]
 mod statuses;
-#[cfg(test)]
+mod traffic;
 mod watched;
 
-fn main() {}
+use anyhow::{Context, Result, bail};
+use std::env;
+
+/// How many runs of made scripts there are, and the seed of the first one, where no word says so.
+const RUNS: u64 = 10;
+
+const SEED: u64 = 1;
+
+/// A word as a number, or another number where there is none.
+fn number(word: Option<String>, other: u64) -> Result<u64> {
+    match word {
+        Some(word) => Ok(word.as_str().parse::<u64>()?),
+        None => Ok(other),
+    }
+}
+
+fn main(rt: HostRuntime) -> Result<()> {
+    let alloc = rt.alloc();
+    let mut words = env::args(&rt)?;
+    let _program = words.next();
+    let kind = words.next().context("say checks, made or faults")?;
+    match kind.as_str() {
+        "checks" => checks::tell_all(&rt, alloc),
+        "made" => {
+            let runs = number(words.next(), RUNS)?;
+            let first = number(words.next(), SEED)?;
+            made::serve_all(&rt, alloc, runs, first)
+        }
+        "faults" => faults::fail_each(&rt, alloc),
+        _ => bail!("say checks, made or faults"),
+    }
+}

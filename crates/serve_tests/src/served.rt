@@ -1,28 +1,27 @@
 //! Runs of a script over a wire in memory.
 
-ghost use Rattle.std.specs.Prelude.{◌≡◌, ◌<◌, ◌≤◌, ◌+◌, length};
-ghost use Rattle.gate_io.specs.declared.wires.TheConstants.{MOST_CONNECTIONS};
+ghost use Rattle.std.specs.Prelude.{◌≡◌};
 
-use fix_frame::{is_body, write_frame};
-use gate_io::{Clock, Dial, Gate, MemSink, MemSource, MemWire};
-use gateway_run::{Status, serve};
+use anyhow::Result;
+use gate_io::{Clock, Dial, Gate, MemSink, MemSource};
+use gateway_run::{RunRecord, Status, serve};
+use row_text::{holds, same};
 use std::alloc::Global;
-use std::test::Fail;
 use std::thread::Threads;
 
 /// The moment of the tests: 20260105-09:30:00.000.
-pub const MOMENT: u64 = 1_767_605_400_000;
+pub(crate) const MOMENT: u64 = 1_767_605_400_000;
 
 /// How a run ended, and what its sink took.
 #[derive(Drop)]
-pub struct Ran {
-    pub status: Status,
-    pub report: Vec<u8>,
+pub(crate) struct Ran {
+    pub(crate) status: Status,
+    pub(crate) report: Vec<u8>,
 }
 
 impl Ran {
     /// How often a text stands in the report.
-    pub fn count(&self, text: &str) -> usize {
+    fn count(&self, text: &str) -> usize {
         let report = self.report.as_slice();
         let mut count = 0usize;
         for at in 0..report.len() {
@@ -33,14 +32,32 @@ impl Ran {
         count
     }
 
-    /// Whether a text stands in the report.
-    pub fn has(&self, text: &str) -> bool {
-        self.count(text) > 0
+    /// A text stands in the report so often.
+    pub(crate) fn has_often(&self, text: &str, wanted: usize) -> Result<()> {
+        same(text, &self.count(text), &wanted)
+    }
+
+    /// These texts stand in the report.
+    pub(crate) fn has(&self, texts: &[&str]) -> Result<()> {
+        for text in texts {
+            holds(text, self.count(text) > 0)?;
+        }
+        Ok(())
+    }
+
+    /// It ended so.
+    pub(crate) fn ended_as(&self, status: Status) -> Result<()> {
+        same("status", &self.status, &status)
+    }
+
+    /// All that the sink took are these bytes.
+    pub(crate) fn has_written(&self, bytes: &[u8]) -> Result<()> {
+        same("written", &self.report.as_slice(), &bytes)
     }
 }
 
 /// The words that serve a script, with so many turns.
-pub fn words(alloc: Global, turns: &str) -> Result<Vec<String>, Fail> {
+pub(crate) fn words(alloc: Global, turns: &str) -> Result<Vec<String>> {
     let mut all = Vec::new(alloc);
     for text in ["serve", "a.script", "localhost:0", turns] {
         all.push(String::from_str(alloc, text)?)?;
@@ -48,39 +65,30 @@ pub fn words(alloc: Global, turns: &str) -> Result<Vec<String>, Fail> {
     Ok(all)
 }
 
-/// The frame of a Logon (35=A) or another message of a counterparty, with its number.
-pub fn frame(
+/// Serves a script as these words say, into a sink of so much room, and answers the record too.
+pub(crate) fn recorded<R: Threads + Sync, W: Dial + Send, C: Clock + Send, G: Gate + Sync>(
+    rt: &R,
     alloc: Global,
-    kind: &str,
-    them: &str,
-    number: u32,
-    rest: &str,
-) -> Result<Vec<u8>, Fail> {
-    let body = format!(in alloc;
-        "35={kind}\x0149={them}\x0156=GATE\x0134={number}\x0152=20260105-09:30:00.000\x01{rest}"
-    )?;
-    if is_body(body.as_bytes()) {
-        Ok(write_frame(alloc, body.as_bytes())?)
-    } else {
-        Err(Fail::new("no body"))
-    }
-}
-
-/// One more connection comes at a wire, with these bytes and no more.
-pub fn come(alloc: Global, wire: &mut MemWire, bytes: &[u8]) -> Result<(), Fail>
-    requires few { length wire.old.links < MOST_CONNECTIONS }
-    ensures links { length wire.new.links ≤ length wire.old.links + 1 }
-    ensures accepted { wire.new.accepted ≡ wire.old.accepted }
-    ensures dialled { wire.new.dialled ≡ wire.old.dialled }
+    script: &str,
+    words: &[String],
+    wire: &mut W,
+    clock: &mut C,
+    gate: &G,
+    room: usize,
+) -> Result<(Ran, RunRecord)>
+    requires accepted { (W.door wire.old).accepted ≡ 0 }
+    requires dialled { (W.door wire.old).dialled ≡ 0 }
 {
-    let c = wire.connect(alloc)?;
-    wire.give(alloc, c, bytes)?;
-    wire.finish(c);
-    Ok(())
+    let text = Vec::from_slice(alloc, script.as_bytes())?;
+    let mut source = MemSource::new(text, Vec::new(alloc));
+    let mut sink = MemSink::new(alloc, room, Vec::new(alloc))?;
+    let (status, record) = serve(rt, alloc, words, &mut source, wire, clock, gate, &mut sink);
+    let report = Vec::from_slice(alloc, sink.bytes())?;
+    Ok((Ran { status, report }, record))
 }
 
 /// Serves a script with so many turns, into a sink of so much room.
-pub fn served<R: Threads + Sync, W: Dial + Send, C: Clock + Send, G: Gate + Sync>(
+pub(crate) fn served<R: Threads + Sync, W: Dial + Send, C: Clock + Send, G: Gate + Sync>(
     rt: &R,
     alloc: Global,
     script: &str,
@@ -89,26 +97,11 @@ pub fn served<R: Threads + Sync, W: Dial + Send, C: Clock + Send, G: Gate + Sync
     clock: &mut C,
     gate: &G,
     room: usize,
-) -> Result<Ran, Fail>
+) -> Result<Ran>
     requires accepted { (W.door wire.old).accepted ≡ 0 }
     requires dialled { (W.door wire.old).dialled ≡ 0 }
 {
     let words = words(alloc, turns)?;
-    let text = Vec::from_slice(alloc, script.as_bytes())?;
-    let mut source = MemSource::new(text, Vec::new(alloc));
-    let mut sink = MemSink::new(alloc, room, Vec::new(alloc))?;
-    let (status, _record) = serve(
-        rt,
-        alloc,
-        words.as_slice(),
-        &mut source,
-        wire,
-        clock,
-        gate,
-        &mut sink,
-    );
-    Ok(Ran {
-        status,
-        report: Vec::from_slice(alloc, sink.bytes())?,
-    })
+    let (ran, _record) = recorded(rt, alloc, script, words.as_slice(), wire, clock, gate, room)?;
+    Ok(ran)
 }

@@ -1,163 +1,160 @@
 //! The statuses that `serve` has beside those of `replay`.
 
-use crate::served::{MOMENT, frame, served, words};
-use gate_io::{MemSink, MemSource, MemWire, OpenGate, StepClock};
-use gateway_run::{Status, serve};
+ghost use Rattle.std.specs.Prelude.{◌≡◌, IfOk};
+
+use crate::frames::logon;
+use crate::served::{MOMENT, Ran, recorded, served, words};
+use anyhow::{Context, Result};
+use gate_io::{MemWire, OpenGate, StepClock};
+use gateway_run::Status;
 use script_text::ScriptKind;
-use std::test::Fail;
+use std::alloc::Global;
+use std::thread::Threads;
 
 const ROOM: usize = 1_048_576;
 
-// No connection comes, and the engine's turns are spent.
-#[test]
-fn the_engine_spends_its_turns(rt: HostRuntime) -> Result<(), Fail> {
-    let alloc = rt.alloc();
-    let mut wire = MemWire::new(alloc);
+/// A session that accepts one connection.
+const ONE: &str = "session GATE BUYER\nconnections 1\n";
+
+/// Serves a script over a wire, with so many turns and so much room for the report.
+fn run(
+    rt: &(impl Threads + Sync),
+    alloc: Global,
+    wire: &mut MemWire,
+    script: &str,
+    turns: &str,
+    room: usize,
+) -> Result<Ran>
+    requires accepted { wire.old.accepted ≡ 0 }
+    requires dialled { wire.old.dialled ≡ 0 }
+{
     let mut clock = StepClock::new(MOMENT);
     let gate = OpenGate::new();
-    let script = "session GATE BUYER\nconnections 1\n";
-    let ran = served(&rt, alloc, script, "3", &mut wire, &mut clock, &gate, ROOM)?;
-    let spent = Status::TurnsSpent {
+    served(rt, alloc, script, turns, wire, &mut clock, &gate, room)
+}
+
+/// So over a wire at which nobody comes.
+fn run_alone(
+    rt: &(impl Threads + Sync),
+    alloc: Global,
+    script: &str,
+    turns: &str,
+    room: usize,
+) -> Result<Ran> {
+    let mut wire = MemWire::new(alloc);
+    run(rt, alloc, &mut wire, script, turns, room)
+}
+
+/// No connection comes, and the engine's turns are spent.
+pub(crate) fn the_engine_spends_its_turns(rt: &(impl Threads + Sync), alloc: Global) -> Result<()> {
+    let ran = run_alone(rt, alloc, ONE, "3", ROOM)?;
+    ran.ended_as(Status::TurnsSpent {
         turns: 3,
         library: 0,
-    };
-    assert_eq!(rt; ran.status, spent);
-    assert!(rt; ran.has("session 0 GATE BUYER owner 0 lease 0 in 0 out 0\n"));
-    Ok(())
+    })?;
+    ran.has(&["session 0 GATE BUYER owner 0 lease 0 in 0 out 0\n"])
 }
 
-// A dial that never succeeds is awaited as well.
-#[test]
-fn dials_are_awaited(rt: HostRuntime) -> Result<(), Fail> {
-    let alloc = rt.alloc();
-    let mut wire = MemWire::new(alloc);
-    let mut clock = StepClock::new(MOMENT);
-    let gate = OpenGate::new();
-    let script = "dial GATE HUB hub:1 30 1000\ndials 1\n";
-    let ran = served(&rt, alloc, script, "5", &mut wire, &mut clock, &gate, ROOM)?;
-    let spent = Status::TurnsSpent {
-        turns: 5,
-        library: 0,
-    };
-    assert_eq!(rt; ran.status, spent);
-    Ok(())
-}
-
-// An empty script is over at once.
-#[test]
-fn nothing_is_awaited(rt: HostRuntime) -> Result<(), Fail> {
-    let alloc = rt.alloc();
-    let mut wire = MemWire::new(alloc);
-    let mut clock = StepClock::new(MOMENT);
-    let gate = OpenGate::new();
-    let ran = served(&rt, alloc, "", "1", &mut wire, &mut clock, &gate, ROOM)?;
-    assert_eq!(rt; ran.status, Status::Ok);
-    assert_eq!(rt;
-        ran.report.as_slice(),
-        b"fixgate report 1\nend\n".as_slice()
-    );
-    Ok(())
-}
-
-#[test]
-fn the_address_cannot_be_listened_at(rt: HostRuntime) -> Result<(), Fail> {
-    let alloc = rt.alloc();
-    let mut wire = MemWire::new(alloc);
-    wire.fail_listen();
-    let mut clock = StepClock::new(MOMENT);
-    let gate = OpenGate::new();
-    let ran = served(&rt, alloc, "", "1", &mut wire, &mut clock, &gate, ROOM)?;
-    assert_eq!(rt; ran.status, Status::ListenFault);
-    assert_eq!(rt; ran.report.len(), 0);
-    Ok(())
-}
-
-// The report can't be written whole, whatever else is to be told.
-#[test]
-fn the_report_cannot_be_written(rt: HostRuntime) -> Result<(), Fail> {
-    let alloc = rt.alloc();
-    let mut wire = MemWire::new(alloc);
-    let mut clock = StepClock::new(MOMENT);
-    let gate = OpenGate::new();
-    let script = "session GATE BUYER\nconnections 1\n";
-    let ran = served(&rt, alloc, script, "3", &mut wire, &mut clock, &gate, 10)?;
-    assert_eq!(rt; ran.status, Status::WriteFault);
-    assert_eq!(rt; ran.report.as_slice(), b"fixgate re".as_slice());
-    Ok(())
-}
-
-// A line of `replay` is misplaced.
-#[test]
-fn a_line_of_replay_is_misplaced(rt: HostRuntime) -> Result<(), Fail> {
-    let alloc = rt.alloc();
-    let mut wire = MemWire::new(alloc);
-    let mut clock = StepClock::new(MOMENT);
-    let gate = OpenGate::new();
-    let ran = served(
-        &rt,
+/// A dial that never succeeds is awaited as well.
+pub(crate) fn dials_are_awaited(rt: &(impl Threads + Sync), alloc: Global) -> Result<()> {
+    let ran = run_alone(
+        rt,
         alloc,
-        "session GATE BUYER\nturn\n",
-        "3",
-        &mut wire,
-        &mut clock,
-        &gate,
+        "dial GATE HUB hub:1 30 1000\ndials 1\n",
+        "5",
         ROOM,
     )?;
-    let fault = Status::ScriptFault {
-        line: 2,
-        kind: ScriptKind::Misplaced,
-    };
-    assert_eq!(rt; ran.status, fault);
-    Ok(())
+    ran.ended_as(Status::TurnsSpent {
+        turns: 5,
+        library: 0,
+    })
 }
 
-// The words of another command, or none.
-#[test]
-fn words_of_another_command(rt: HostRuntime) -> Result<(), Fail> {
-    let alloc = rt.alloc();
+/// An empty script is over at once.
+pub(crate) fn nothing_is_awaited(rt: &(impl Threads + Sync), alloc: Global) -> Result<()> {
+    let ran = run_alone(rt, alloc, "", "1", ROOM)?;
+    ran.ended_as(Status::Ok)?;
+    ran.has_written(b"fixgate report 1\nend\n")
+}
+
+pub(crate) fn the_address_cannot_be_listened_at(
+    rt: &(impl Threads + Sync),
+    alloc: Global,
+) -> Result<()> {
+    let mut wire = MemWire::new(alloc);
+    wire.fail_listen();
+    let ran = run(rt, alloc, &mut wire, "", "1", ROOM)?;
+    ran.ended_as(Status::ListenFault)?;
+    ran.has_written(b"")
+}
+
+/// The report can't be written whole, whatever else is to be told.
+pub(crate) fn the_report_cannot_be_written(
+    rt: &(impl Threads + Sync),
+    alloc: Global,
+) -> Result<()> {
+    let ran = run_alone(rt, alloc, ONE, "3", 10)?;
+    ran.ended_as(Status::WriteFault)?;
+    ran.has_written(b"fixgate re")
+}
+
+/// A line of `replay` is misplaced.
+pub(crate) fn a_line_of_replay_is_misplaced(
+    rt: &(impl Threads + Sync),
+    alloc: Global,
+) -> Result<()> {
+    let ran = run_alone(rt, alloc, "session GATE BUYER\nturn\n", "3", ROOM)?;
+    ran.ended_as(Status::ScriptFault {
+        line: 2,
+        kind: ScriptKind::Misplaced,
+    })
+}
+
+/// Words that serve nothing give the status of a wrong use, and nothing is written.
+fn is_refused(rt: &(impl Threads + Sync), alloc: Global, words: &[String]) -> Result<()> {
+    let mut wire = MemWire::new(alloc);
+    let mut clock = StepClock::new(MOMENT);
+    let gate = OpenGate::new();
+    let (ran, _record) = recorded(rt, alloc, "", words, &mut wire, &mut clock, &gate, ROOM)?;
+    ran.ended_as(Status::Usage)?;
+    ran.has_written(b"")
+}
+
+/// The words of `replay`.
+fn words_of_replay(alloc: Global) -> Result<Vec<String>> {
     let mut replay = Vec::new(alloc);
     for text in ["replay", "a.script"] {
         replay.push(String::from_str(alloc, text)?)?;
     }
-    for words in [replay, words(alloc, "0")?, Vec::new(alloc)] {
-        let mut wire = MemWire::new(alloc);
-        let mut clock = StepClock::new(MOMENT);
-        let gate = OpenGate::new();
-        let mut source = MemSource::new(Vec::new(alloc), Vec::new(alloc));
-        let mut sink = MemSink::new(alloc, ROOM, Vec::new(alloc))?;
-        let (status, _record) = serve(
-            &rt,
-            alloc,
-            words.as_slice(),
-            &mut source,
-            &mut wire,
-            &mut clock,
-            &gate,
-            &mut sink,
-        );
-        assert_eq!(rt; status, Status::Usage);
-        assert_eq!(rt; sink.bytes().len(), 0);
-    }
-    Ok(())
+    Ok(replay)
 }
 
-// Accepted connections, a refused one among them, are awaited to their end.
-#[test]
-fn a_refused_connection_counts(rt: HostRuntime) -> Result<(), Fail> {
-    let alloc = rt.alloc();
+/// The words of another command, or none.
+pub(crate) fn words_of_another_command(rt: &(impl Threads + Sync), alloc: Global) -> Result<()> {
+    let replay = words_of_replay(alloc)?;
+    is_refused(rt, alloc, replay.as_slice()).context("words of replay")?;
+    let no_turns = words(alloc, "0")?;
+    is_refused(rt, alloc, no_turns.as_slice()).context("no turns")?;
+    is_refused(rt, alloc, &[]).context("no words")
+}
+
+/// A wire at which a stranger logs on.
+fn wire_with_stranger(alloc: Global) -> Result<MemWire>
+    ensures accepted { IfOk result (λ wire. wire.accepted ≡ 0) }
+    ensures dialled { IfOk result (λ wire. wire.dialled ≡ 0) }
+{
     let mut wire = MemWire::new(alloc);
+    let stranger = logon(alloc, "NOBODY")?;
     let c = wire.connect(alloc)?;
-    let stranger = frame(alloc, "A", "NOBODY", 1, "98=0\x01108=30\x01")?;
     wire.give(alloc, c, stranger.as_slice())?;
     wire.reserve(alloc, ROOM)?;
-    let mut clock = StepClock::new(MOMENT);
-    let gate = OpenGate::new();
-    let script = "session GATE BUYER\nconnections 1\n";
-    let ran = served(
-        &rt, alloc, script, "100", &mut wire, &mut clock, &gate, ROOM,
-    )?;
-    assert_eq!(rt; ran.status, Status::Ok);
-    assert!(rt; ran.has("connection 0 session - taken "));
-    assert!(rt; ran.has(" cause no-such-session\n"));
-    Ok(())
+    Ok(wire)
+}
+
+/// Accepted connections, a refused one among them, are awaited to their end.
+pub(crate) fn a_refused_connection_counts(rt: &(impl Threads + Sync), alloc: Global) -> Result<()> {
+    let mut wire = wire_with_stranger(alloc)?;
+    let ran = run(rt, alloc, &mut wire, ONE, "100", ROOM)?;
+    ran.ended_as(Status::Ok)?;
+    ran.has(&["connection 0 session - taken ", " cause no-such-session\n"])
 }

@@ -3,37 +3,17 @@
 ghost use Rattle.std.specs.Prelude.{◌≡◌, ◌<◌, ◌≤◌, ◌+◌, IfOk, length};
 ghost use Rattle.gate_io.specs.declared.wires.TheConstants.{MOST_CONNECTIONS};
 
-use anyhow::{Result, bail};
+use crate::frames::{come, logon, put_frame};
+use anyhow::Result;
 use draws::Draw;
-use fix_frame::{is_body, write_frame};
 use gate_io::MemWire;
 use std::alloc::Global;
 
 /// Room for what is written to a connection.
 const ROOM: usize = 4_194_304;
 
-/// A frame of a counterparty, put behind others.
-fn put_frame(
-    alloc: Global,
-    them: u32,
-    number: u32,
-    kind: &str,
-    rest: &str,
-    bytes: &mut Vec<u8>,
-) -> Result<()> {
-    let body = format!(in alloc;
-        "35={kind}\x0149=P{them}\x0156=GATE\x0134={number}\x0152=20260105-09:30:00.000\x01{rest}"
-    )?;
-    if !is_body(body.as_bytes()) {
-        bail!("no body");
-    }
-    let mut frame = write_frame(alloc, body.as_bytes())?;
-    bytes.append(&mut frame)?;
-    Ok(())
-}
-
 /// A gap: the number before it comes later, as a gap fill.
-fn put_gap(alloc: Global, them: u32, number: u32, bytes: &mut Vec<u8>) -> Result<()> {
+fn put_gap(alloc: Global, them: &str, number: u32, bytes: &mut Vec<u8>) -> Result<()> {
     let next = number.saturating_add(1);
     put_frame(alloc, them, next, "D", "11=LATE\x01", bytes)?;
     let rest = format!(in alloc; "43=Y\x01123=Y\x0136={next}\x01")?;
@@ -45,7 +25,7 @@ fn put_gap(alloc: Global, them: u32, number: u32, bytes: &mut Vec<u8>) -> Result
 fn put_message(
     alloc: Global,
     draw: &mut Draw,
-    them: u32,
+    them: &str,
     number: u32,
     bytes: &mut Vec<u8>,
 ) -> Result<u32> {
@@ -67,9 +47,8 @@ fn put_message(
 }
 
 /// All that a counterparty sends.
-fn bytes_of(alloc: Global, draw: &mut Draw, them: u32) -> Result<Vec<u8>> {
-    let mut bytes = Vec::new(alloc);
-    put_frame(alloc, them, 1, "A", "98=0\x01108=30\x01", &mut bytes)?;
+fn bytes_of(alloc: Global, draw: &mut Draw, them: &str) -> Result<Vec<u8>> {
+    let mut bytes = logon(alloc, them)?;
     let mut number = 2u32;
     let count = draw.below(400).saturating_add(20);
     for _message in 0..count {
@@ -82,18 +61,16 @@ fn bytes_of(alloc: Global, draw: &mut Draw, them: u32) -> Result<Vec<u8>> {
     Ok(bytes)
 }
 
-/// A counterparty comes, with all its bytes and no more.
-fn come(alloc: Global, draw: &mut Draw, them: u32, wire: &mut MemWire) -> Result<()>
+/// The counterparty of this number comes, with all its bytes and no more.
+fn come_in(alloc: Global, draw: &mut Draw, them: u32, wire: &mut MemWire) -> Result<()>
     requires few { length wire.old.links < MOST_CONNECTIONS }
     ensures links { length wire.new.links ≤ length wire.old.links + 1 }
     ensures accepted { wire.new.accepted ≡ wire.old.accepted }
     ensures dialled { wire.new.dialled ≡ wire.old.dialled }
 {
-    let bytes = bytes_of(alloc, draw, them)?;
-    let c = wire.connect(alloc)?;
-    wire.give(alloc, c, bytes.as_slice())?;
-    wire.finish(c);
-    Ok(())
+    let them = format!(in alloc; "P{them}")?;
+    let bytes = bytes_of(alloc, draw, them.as_str())?;
+    come(alloc, wire, bytes.as_slice())
 }
 
 /// A wire at which they all come.
@@ -102,14 +79,14 @@ pub(crate) fn wire(alloc: Global, draw: &mut Draw) -> Result<MemWire>
     ensures dialled { IfOk result (λ wire. wire.dialled ≡ 0) }
 {
     let mut wire = MemWire::new(alloc);
-    come(alloc, draw, 0, &mut wire)?;
-    come(alloc, draw, 1, &mut wire)?;
-    come(alloc, draw, 2, &mut wire)?;
-    come(alloc, draw, 3, &mut wire)?;
-    come(alloc, draw, 4, &mut wire)?;
-    come(alloc, draw, 5, &mut wire)?;
-    come(alloc, draw, 6, &mut wire)?;
-    come(alloc, draw, 7, &mut wire)?;
+    come_in(alloc, draw, 0, &mut wire)?;
+    come_in(alloc, draw, 1, &mut wire)?;
+    come_in(alloc, draw, 2, &mut wire)?;
+    come_in(alloc, draw, 3, &mut wire)?;
+    come_in(alloc, draw, 4, &mut wire)?;
+    come_in(alloc, draw, 5, &mut wire)?;
+    come_in(alloc, draw, 6, &mut wire)?;
+    come_in(alloc, draw, 7, &mut wire)?;
     wire.reserve(alloc, ROOM)?;
     Ok(wire)
 }

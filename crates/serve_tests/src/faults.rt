@@ -2,20 +2,28 @@
 
 ghost use Rattle.std.specs.Prelude.{◌≡◌, IfOk};
 
+use crate::audited::verdict;
+use crate::drowsy::DrowsyGate;
 use crate::faulty::{Fault, FaultyWire};
+use crate::frames::{come, logon, put_frame};
+use crate::served::{Ran, recorded, words};
 use anyhow::{Result, bail};
-use fix_frame::{is_body, write_frame};
-use gate_io::{Clock, FIRST_DIALLED, Gate, MemSink, MemSource, MemWire};
-use gateway_run::{RunRecord, Status, serve};
-use journal_audit::{LONGEST_REPORT, Verdict, audit};
+use gate_io::{Clock, FIRST_DIALLED, Gate, MemWire, RealClock};
+use gateway_run::{RunRecord, Status};
+use journal_audit::Verdict;
 use session_core::Cause;
 use std::alloc::Global;
+use std::rt;
+use std::rt::Runtime;
 use std::thread::Threads;
 
 /// Room for what is written to a connection, and for the report of a run.
 const ROOM: usize = 65_536;
 
 const REPORT: usize = 1_048_576;
+
+/// How many of a kind are let fail at most, one in each run.
+const MOST: u64 = 400;
 
 /// Two sessions that accept and one that dials, two libraries, and each library's lines.
 const SCRIPT: &str = "session GATE P0
@@ -40,30 +48,9 @@ lib 2 send 1 35=8|37=R1|
 lib 2 hand 1 1
 ";
 
-/// Puts a frame of a counterparty behind others.
-fn put_frame(
-    alloc: Global,
-    them: &str,
-    number: u32,
-    kind: &str,
-    rest: &str,
-    bytes: &mut Vec<u8>,
-) -> Result<()> {
-    let body = format!(in alloc;
-        "35={kind}\x0149={them}\x0156=GATE\x0134={number}\x0152=20260105-09:30:00.000\x01{rest}"
-    )?;
-    if !is_body(body.as_bytes()) {
-        bail!("no body");
-    }
-    let mut frame = write_frame(alloc, body.as_bytes())?;
-    bytes.append(&mut frame)?;
-    Ok(())
-}
-
 /// What a counterparty sends that logs on, sends three orders and logs out.
 fn bytes_of(alloc: Global, them: &str) -> Result<Vec<u8>> {
-    let mut bytes = Vec::new(alloc);
-    put_frame(alloc, them, 1, "A", "98=0\x01108=30\x01", &mut bytes)?;
+    let mut bytes = logon(alloc, them)?;
     for number in 2..5 {
         put_frame(
             alloc,
@@ -87,12 +74,8 @@ fn wire(alloc: Global) -> Result<MemWire>
     let one = bytes_of(alloc, "P0")?;
     let two = bytes_of(alloc, "P1")?;
     let hub = bytes_of(alloc, "HUB")?;
-    let c = wire.connect(alloc)?;
-    wire.give(alloc, c, one.as_slice())?;
-    wire.finish(c);
-    let c = wire.connect(alloc)?;
-    wire.give(alloc, c, two.as_slice())?;
-    wire.finish(c);
+    come(alloc, &mut wire, one.as_slice())?;
+    come(alloc, &mut wire, two.as_slice())?;
     wire.take(alloc)?;
     wire.give(alloc, FIRST_DIALLED, hub.as_slice())?;
     wire.finish(FIRST_DIALLED);
@@ -144,13 +127,20 @@ fn is_right(record: &RunRecord, fault: Fault, connection: Option<u32>) -> bool {
 
 /// What came of a run: whether the fault came, and whether all is right.
 #[derive(Clone, Copy, Debug)]
-pub(crate) struct Came {
-    pub(crate) failed: bool,
-    pub(crate) right: bool,
+struct Came {
+    failed: bool,
+    right: bool,
+}
+
+/// Whether a run came to its end, with a report that is right.
+fn has_ended(alloc: Global, ran: &Ran) -> Result<bool> {
+    let ended = matches!(ran.status, Status::Ok | Status::TurnsSpent { .. });
+    let audited = matches!(verdict(alloc, ran)?, Verdict::Yes);
+    Ok(ended && audited)
 }
 
 /// One run, in which so many succeed before one fails.
-pub(crate) fn run<R: Threads + Sync, C: Clock + Send, G: Gate + Sync>(
+fn run<R: Threads + Sync, C: Clock + Send, G: Gate + Sync>(
     rt: &R,
     alloc: Global,
     fault: Fault,
@@ -158,32 +148,72 @@ pub(crate) fn run<R: Threads + Sync, C: Clock + Send, G: Gate + Sync>(
     clock: &mut C,
     gate: &G,
 ) -> Result<Came> {
-    let mut words = Vec::new(alloc);
-    for text in ["serve", "made.script", "memory:0", "200000"] {
-        words.push(String::from_str(alloc, text)?)?;
-    }
+    let words = words(alloc, "200000")?;
     let mut wire = FaultyWire::new(wire(alloc)?, fault, before);
-    let mut source = MemSource::new(Vec::from_slice(alloc, SCRIPT.as_bytes())?, Vec::new(alloc));
-    let mut sink = MemSink::new(alloc, REPORT, Vec::new(alloc))?;
-    let (status, record) = serve(
+    let (ran, record) = recorded(
         rt,
         alloc,
+        SCRIPT,
         words.as_slice(),
-        &mut source,
         &mut wire,
         clock,
         gate,
-        &mut sink,
-    );
-    let report = sink.bytes();
-    if report.len() > LONGEST_REPORT {
-        bail!("the report is too long");
-    }
-    let verdict = audit(alloc, report)?;
-    let audited = matches!(verdict, Verdict::Yes);
-    let ended = matches!(status, Status::Ok | Status::TurnsSpent { .. });
+        REPORT,
+    )?;
+    let right = has_ended(alloc, &ran)? && is_right(&record, fault, wire.connection());
     Ok(Came {
         failed: wire.has_failed(),
-        right: ended && audited && is_right(&record, fault, wire.connection()),
+        right,
     })
+}
+
+/// The run in which so many succeed before one fails. Prints where it ends wrong.
+fn fail_one(
+    rt: &(impl Runtime + rt::Clock + Threads + Copy + Send + Sync),
+    alloc: Global,
+    fault: Fault,
+    before: u64,
+) -> Result<Came> {
+    let mut clock = RealClock::new(*rt);
+    let gate = DrowsyGate::new(*rt, before);
+    let came = run(rt, alloc, fault, before, &mut clock, &gate)?;
+    if !came.right {
+        println!(rt; "{fault:?} {before} ends wrong")?;
+    }
+    Ok(came)
+}
+
+/// Lets each of a kind fail, one in each run. Answers how many runs ended wrong.
+fn fail_kind(
+    rt: &(impl Runtime + rt::Clock + Threads + Copy + Send + Sync),
+    alloc: Global,
+    fault: Fault,
+) -> Result<u64> {
+    let mut wrong = 0u64;
+    for before in 0..MOST {
+        let came = fail_one(rt, alloc, fault, before)?;
+        if !came.right {
+            wrong = wrong.saturating_add(1);
+        }
+        if !came.failed {
+            println!(rt; "{fault:?}: {before} failed, one in each run")?;
+            break;
+        }
+    }
+    Ok(wrong)
+}
+
+/// Lets each of each kind fail. Fails where a run ended wrong.
+pub(crate) fn fail_each(
+    rt: &(impl Runtime + rt::Clock + Threads + Copy + Send + Sync),
+    alloc: Global,
+) -> Result<()> {
+    let mut wrong = 0u64;
+    for fault in Fault::ALL {
+        wrong = wrong.saturating_add(fail_kind(rt, alloc, fault)?);
+    }
+    if wrong > 0 {
+        bail!("{wrong} runs ended wrong");
+    }
+    Ok(())
 }
