@@ -1,6 +1,6 @@
 //! Whole scripts, each with its whole report.
 
-pub const ROW: &str = "session GATE BUYER
+pub(crate) const ROW: &str = "session GATE BUYER
 libraries 1
 at 20260105-09:30:00.000
 connect
@@ -12,7 +12,7 @@ turn
 turn
 ";
 
-pub const ROW_REPORT: &str = "fixgate report 1
+pub(crate) const ROW_REPORT: &str = "fixgate report 1
 session 0 GATE BUYER owner 0 lease 0 in 2 out 1
  bind 0
  admin 1
@@ -29,7 +29,7 @@ library 1 reads 0
 end
 ";
 
-pub const NO_MESSAGES: &str = "session GATE BUYER
+pub(crate) const NO_MESSAGES: &str = "session GATE BUYER
 libraries 1
 at 20260105-09:30:00.000
 connect
@@ -39,7 +39,7 @@ turn
 turn
 ";
 
-pub const NO_MESSAGES_REPORT: &str = "fixgate report 1
+pub(crate) const NO_MESSAGES_REPORT: &str = "fixgate report 1
 session 0 GATE BUYER owner 0 lease 0 in 0 out 1
  bind 0
  admin 1
@@ -52,7 +52,7 @@ library 1 reads 0
 end
 ";
 
-pub const THREE_MESSAGES: &str = "session GATE BUYER
+pub(crate) const THREE_MESSAGES: &str = "session GATE BUYER
 libraries 1
 at 20260105-09:30:00.000
 connect
@@ -65,7 +65,7 @@ turn
 turn
 ";
 
-pub const THREE_MESSAGES_REPORT: &str = "fixgate report 1
+pub(crate) const THREE_MESSAGES_REPORT: &str = "fixgate report 1
 session 0 GATE BUYER owner 0 lease 0 in 3 out 1
  bind 0
  admin 1
@@ -84,7 +84,7 @@ library 1 reads 0
 end
 ";
 
-pub const TEN_MESSAGES: &str = "session GATE BUYER
+pub(crate) const TEN_MESSAGES: &str = "session GATE BUYER
 libraries 1
 at 20260105-09:30:00.000
 connect
@@ -104,7 +104,7 @@ turn
 turn
 ";
 
-pub const TEN_MESSAGES_REPORT: &str = "fixgate report 1
+pub(crate) const TEN_MESSAGES_REPORT: &str = "fixgate report 1
 session 0 GATE BUYER owner 0 lease 0 in 10 out 1
  bind 0
  admin 1
@@ -137,7 +137,7 @@ library 1 reads 0
 end
 ";
 
-pub const NO_HEARTBEATS: &str = "session GATE BUYER
+pub(crate) const NO_HEARTBEATS: &str = "session GATE BUYER
 libraries 1
 at 20260105-09:30:00.000
 connect
@@ -149,7 +149,7 @@ turn
 turn
 ";
 
-pub const NO_HEARTBEATS_REPORT: &str = "fixgate report 1
+pub(crate) const NO_HEARTBEATS_REPORT: &str = "fixgate report 1
 session 0 GATE BUYER owner 0 lease 0 in 2 out 1
  bind 0
  admin 1
@@ -166,7 +166,7 @@ library 1 reads 0
 end
 ";
 
-pub const DAILY_HEARTBEATS: &str = "session GATE BUYER
+pub(crate) const DAILY_HEARTBEATS: &str = "session GATE BUYER
 libraries 1
 at 20260105-09:30:00.000
 connect
@@ -178,7 +178,7 @@ turn
 turn
 ";
 
-pub const DAILY_HEARTBEATS_REPORT: &str = "fixgate report 1
+pub(crate) const DAILY_HEARTBEATS_REPORT: &str = "fixgate report 1
 session 0 GATE BUYER owner 0 lease 0 in 2 out 1
  bind 0
  admin 1

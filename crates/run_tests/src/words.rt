@@ -1,56 +1,51 @@
 //! The words behind the program's name.
 
-use crate::replayed::words;
+use crate::replayed::{commanded, words};
+use anyhow::{Context, Result, bail};
 use gate_io::{MemSink, MemSource};
-use gateway_run::{Chosen, Status, WordsError, command_of, replay};
-use std::test::Fail;
+use gateway_run::{Chosen, Status, command_of};
+use row_text::same;
+use std::alloc::Global;
 
-#[test]
-fn words_that_give_no_command(rt: HostRuntime) -> Result<(), Fail> {
-    let alloc = rt.alloc();
-    let cases: [&[&str]; 9] = [
-        &["replay"],
-        &["replay", "-x"],
-        &["replay", ""],
-        &["replay", "a", "b"],
-        &["drill", "0"],
-        &["drill", "501"],
-        &["drill", "seven"],
-        &["serve", "a.script", "127.0.0.1:9880", "1"],
-        &[],
-    ];
-    for texts in cases {
-        let words = words(alloc, texts)?;
-        let mut source = MemSource::new(Vec::new(alloc), Vec::new(alloc));
-        let mut sink = MemSink::new(alloc, 10, Vec::new(alloc))?;
-        let (status, _record) = replay(alloc, words.as_slice(), &mut source, &mut sink);
-        assert_eq!(rt; status, Status::Usage);
-    }
-    Ok(())
-}
+const NO_COMMANDS: [&[&str]; 9] = [
+    &["replay"],
+    &["replay", "-x"],
+    &["replay", ""],
+    &["replay", "a", "b"],
+    &["drill", "0"],
+    &["drill", "501"],
+    &["drill", "seven"],
+    &["serve", "a.script", "127.0.0.1:9880", "1"],
+    &[],
+];
 
-#[test]
-fn words_that_name_a_script(rt: HostRuntime) -> Result<(), Fail> {
-    let alloc = rt.alloc();
-    let words = words(alloc, &["replay", "a.script"])?;
-    match command_of(alloc, words.as_slice()) {
-        Ok(Chosen::Replay { path }) => assert_eq!(rt; path.as_str(), "a.script"),
-        Ok(_other) => assert!(rt; false, "another command"),
-        Err(e) => assert_eq!(rt; e, WordsError::OutOfMemory),
-    }
-    Ok(())
-}
-
-#[test]
-fn words_of_a_drill(rt: HostRuntime) -> Result<(), Fail> {
-    let alloc = rt.alloc();
-    let words = words(alloc, &["drill", "7"])?;
+/// These words end so, where the source is empty, and the sink takes this text.
+fn compare(alloc: Global, texts: &[&str], status: Status, written: &str) -> Result<()> {
+    let words = words(alloc, texts)?;
     let mut source = MemSource::new(Vec::new(alloc), Vec::new(alloc));
     let mut sink = MemSink::new(alloc, 200, Vec::new(alloc))?;
-    let (status, _record) = replay(alloc, words.as_slice(), &mut source, &mut sink);
-    assert_eq!(rt; status, Status::Ok);
+    let ended = commanded(alloc, words.as_slice(), &mut source, &mut sink)?;
+    ended.is_with(status, written.as_bytes())
+}
+
+pub(crate) fn words_that_give_no_command(alloc: Global) -> Result<()> {
+    for texts in NO_COMMANDS {
+        compare(alloc, texts, Status::Usage, "").context(format_args!("{texts:?}"))?;
+    }
+    Ok(())
+}
+
+pub(crate) fn words_that_name_a_script(alloc: Global) -> Result<()> {
+    let words = words(alloc, &["replay", "a.script"])?;
+    match command_of(alloc, words.as_slice()) {
+        Ok(Chosen::Replay { path }) => same("path", &path.as_str(), &"a.script"),
+        Ok(_other) => bail!("another command"),
+        Err(why) => Err(why.into()),
+    }
+}
+
+pub(crate) fn words_of_a_drill(alloc: Global) -> Result<()> {
     let summary =
         "fixgate drill 7\nsessions 8 libraries 4 connections 8\naccepted 56 entries 36 leases 28 reads 76 sends 28\nend\n";
-    assert_eq!(rt; sink.bytes(), summary.as_bytes());
-    Ok(())
+    compare(alloc, &["drill", "7"], Status::Ok, summary)
 }
