@@ -1,11 +1,11 @@
 //! What can be asked of the session and of its last connection.
 
 use crate::desk::Desk;
-use crate::texts::{T, legible};
+use crate::texts::T;
 use connection_core::Connection;
 use gate_io::NoMemory;
 use message_log::{InLog, OutLog};
-use row_text::{Words, said, shown};
+use row_text::{Words, legible, said, shown};
 use session_book::SessionBook;
 use std::alloc::Global;
 

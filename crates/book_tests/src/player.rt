@@ -5,9 +5,8 @@ use crate::desk::Desk;
 use crate::facts::what_is;
 use crate::leases::perform;
 use crate::steps::{Step, read_step};
-use crate::texts::legible;
 use gate_io::NoMemory;
-use row_text::{Course, Fault, Step as Line, done, fault_of, said, shown};
+use row_text::{Course, Fault, Step as Line, done, fault_of, legible, said, shown};
 use std::alloc::Global;
 
 /// A desk, and how many of its entries were told.

@@ -4,12 +4,13 @@ ghost use Rattle.std.specs.Prelude.{◌≡◌, IfOk, true};
 ghost use Rattle.resend_plan.specs.Wire.{NamesEntry};
 ghost use Rattle.connection_core.specs.Outgoing.{no_outgoing};
 
-use crate::texts::{MORNING, soh};
+use crate::texts::MORNING;
 use connection_core::{ConnRecord, Connection, items_have_text, items_stay_queued};
 use fix_frame::is_body;
 use gate_io::{Bytes, NoMemory};
 use message_log::{LAST_SERIES, OutEntry, OutLog};
 use resend_plan::{LONGEST_APPLICATION_BODY, Names2, WireItem, logs_stay_fit};
+use row_text::soh;
 use session_core::Cause;
 use std::alloc::Global;
 use std::marker::Model;

@@ -4,12 +4,13 @@ ghost use Rattle.std.specs.Prelude.{◌≡◌, ◌≤◌, IsNone, OnOk};
 ghost use Rattle.connection_core.specs.Connection.{room};
 
 use crate::checks::{holds, same, same_at};
-use crate::texts::{MORNING, soh};
+use crate::texts::MORNING;
 use connection_core::{Connection, MOST_READ, OwnedPiece};
 use fix_frame::{is_body, write_frame};
 use gate_io::NoMemory;
 use rand_core::utils::NextWord;
 use rand_pcg::Pcg32;
+use row_text::soh;
 use session_core::Cause;
 use std::alloc::Global;
 use std::test::Fail;

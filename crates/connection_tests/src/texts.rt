@@ -1,19 +1,7 @@
 //! Texts in which `|` stands for SOH.
 
-use gate_io::NoMemory;
-use std::alloc::Global;
-
 /// 2026-01-05 09:30:00.000
 pub const MORNING: u64 = 1_767_605_400_000;
-
-/// The bytes with SOH where the text has `|`.
-pub fn soh(alloc: Global, text: &str) -> Result<Vec<u8>, NoMemory> {
-    let mut bytes = Vec::new(alloc);
-    for b in text.as_bytes() {
-        bytes.push(if *b == b'|' { 1 } else { *b })?;
-    }
-    Ok(bytes)
-}
 
 /// Whether the bytes are those of the text.
 pub fn is_text(bytes: &[u8], text: &str) -> bool {

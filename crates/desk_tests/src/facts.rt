@@ -2,11 +2,11 @@
 
 ghost use Rattle.std.specs.Prelude.{◌<◌, length};
 
-use crate::texts::{T, legible};
+use crate::texts::T;
 use connection_core::Connection;
 use gate_io::NoMemory;
 use library_desk::LibraryDesk;
-use row_text::{Words, said, shown};
+use row_text::{Words, legible, said, shown};
 use session_book::SessionBook;
 use std::alloc::Global;
 use switchboard::Switchboard;

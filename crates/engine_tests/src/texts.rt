@@ -2,6 +2,7 @@
 
 use fix_fields::LONGEST_APPLICATION_BODY;
 use gate_io::NoMemory;
+use row_text::{Sign, put_signed, signed};
 use std::alloc::Global;
 
 /// 2026-01-05 09:30:00.000
@@ -13,15 +14,24 @@ pub(crate) const ORDER: &str = "35=D|(#)11=A#|";
 /// What stands between two bodies.
 const THEN: &str = " then ";
 
+// What stands for parts of bodies.
+const SIGNS: [Sign<'static>; 9] = [
+    (b'@', b"20260105-09:30:00.000"),
+    (b'(', b"49=BUYER\x0156=GATE\x0134="),
+    (b'[', b"49=DESK\x0156=GATE\x0134="),
+    (b'{', b"49=HUB\x0156=GATE\x0134="),
+    (b'<', b"49=GATE\x0156=BUYER\x0134="),
+    (b')', b"\x0152=20260105-09:30:00.000\x01"),
+    (b']', b"\x0152=20260105-09:30:00.000\x01"),
+    (b'}', b"\x0152=20260105-09:30:00.000\x01"),
+    (b'>', b"\x0152=20260105-09:30:00.000\x01"),
+];
+
 /// The bytes of a text in which `|` stands for SOH, `@` for the morning's beginning as field 52 has it, and
 /// with a number n `(n)` for BUYER's header, `[n]` for DESK's, `{n}` for HUB's, and `<n>` for GATE's to
 /// BUYER.
 pub(crate) fn soh(alloc: Global, text: &str) -> Result<Vec<u8>, NoMemory> {
-    let mut bytes = Vec::new(alloc);
-    for byte in text.as_bytes() {
-        put(&mut bytes, *byte)?;
-    }
-    Ok(bytes)
+    signed(alloc, text, &SIGNS)
 }
 
 /// So where `#` stands for a number.
@@ -32,25 +42,10 @@ pub(crate) fn numbered(alloc: Global, text: &str, number: u64) -> Result<Vec<u8>
         if *byte == b'#' {
             bytes.extend_from_slice(digits.as_bytes())?;
         } else {
-            put(&mut bytes, *byte)?;
+            put_signed(&mut bytes, *byte, &SIGNS)?;
         }
     }
     Ok(bytes)
-}
-
-// Puts what a sign stands for behind the bytes.
-fn put(bytes: &mut Vec<u8>, sign: u8) -> Result<(), NoMemory> {
-    match sign {
-        b'|' => bytes.push(1)?,
-        b'@' => bytes.extend_from_slice(b"20260105-09:30:00.000")?,
-        b'(' => bytes.extend_from_slice(b"49=BUYER\x0156=GATE\x0134=")?,
-        b'[' => bytes.extend_from_slice(b"49=DESK\x0156=GATE\x0134=")?,
-        b'{' => bytes.extend_from_slice(b"49=HUB\x0156=GATE\x0134=")?,
-        b'<' => bytes.extend_from_slice(b"49=GATE\x0156=BUYER\x0134=")?,
-        b')' | b']' | b'}' | b'>' => bytes.extend_from_slice(b"\x0152=20260105-09:30:00.000\x01")?,
-        _ => bytes.push(sign)?,
-    }
-    Ok(())
 }
 
 /// The longest body that a library may send, of one field beside its type.

@@ -1,10 +1,10 @@
 //! The acts of the engine.
 
-use crate::answers::{Answer, body_of, lease, made, shown, text, with_body};
 use crate::engine::Engine;
 use crate::many;
 use lease_core::Why;
 use row_text::Words;
+use row_text::answers::{Answer, body_of, lease, made, shown, text, with_body};
 use std::alloc::Global;
 
 /// An act of the engine, or many of one kind.

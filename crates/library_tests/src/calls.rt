@@ -1,9 +1,9 @@
 //! The calls of library 1.
 
-use crate::answers::{Answer, body_of, made, shown, text, with_body};
 use crate::many;
 use library_play::{Application, Seen};
 use row_text::Words;
+use row_text::answers::{Answer, body_of, made, shown, text, with_body};
 use std::alloc::Global;
 
 /// A call of library 1, or many of one kind.

@@ -1,12 +1,12 @@
 //! What the command of a line comes to.
 
 use crate::acts::{ACTS, TALES, play_act, play_tale};
-use crate::answers::Answer;
 use crate::calls::{CALLS, play_call};
 use crate::engine::Engine;
 use crate::pairs::{PAIRS, play_pair};
 use library_play::Application;
 use row_text::Words;
+use row_text::answers::Answer;
 use std::alloc::Global;
 
 // What a table has under a name.

@@ -20,7 +20,6 @@
 #![tactic(auto)]
 
 mod acts;
-mod answers;
 mod calls;
 mod engine;
 mod lines;

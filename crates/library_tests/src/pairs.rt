@@ -1,10 +1,10 @@
 //! What both sides do together.
 
-use crate::answers::{Answer, lease, made};
 use crate::engine::Engine;
 use crate::many;
 use library_play::Application;
 use row_text::Words;
+use row_text::answers::{Answer, lease, made};
 use std::alloc::Global;
 
 #[derive(Clone, Copy)]

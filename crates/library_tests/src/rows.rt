@@ -1,12 +1,12 @@
 //! Rows, each played from the outset.
 
-use crate::answers::MADE;
 use crate::engine::Engine;
 use crate::lines::answer;
 use crate::shared::{Limits, Shared};
 use anyhow::Result;
 use gate_io::NoMemory;
 use library_play::Application;
+use row_text::answers::MADE;
 use row_text::{Course, Fault, Player, Row, Step, Words};
 use std::alloc::Global;
 

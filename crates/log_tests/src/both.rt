@@ -1,9 +1,9 @@
 //! A log, and plain lists that got the same entries.
 
-use crate::texts::soh;
 use draws::Draw;
 use gate_io::{Bytes, NoMemory};
 use message_log::{LAST_SERIES, OutEntry, OutLog, PAGE};
+use row_text::soh;
 use std::alloc::Global;
 
 pub fn entry(alloc: Global, at: u64, admin: bool, body: &str) -> Result<OutEntry, NoMemory> {

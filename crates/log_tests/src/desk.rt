@@ -2,10 +2,10 @@
 ghost use Rattle.std.specs.Prelude.{◌≡◌, ◌<◌};
 
 use crate::both::Both;
-use crate::texts::soh;
 use gate_io::{Bytes, NoMemory};
 use message_log::{InLog, OutLog, Steps};
 use resend_plan::Names2;
+use row_text::soh;
 use std::alloc::Global;
 use std::marker::Brand;
 use std::sync::ledger::{Blank, Ledger};

@@ -1,12 +1,11 @@
 //! The text of an item, and its frame.
 
 use crate::desk::Desk;
-use crate::texts::legible;
 use fix_frame::{FrameError, is_body, write_frame};
 use gate_io::NoMemory;
 use message_log::OutLog;
 use resend_plan::{Names2, WireItem, wire_body};
-use row_text::{Words, said, shown};
+use row_text::{Words, legible, said, shown};
 use std::alloc::Global;
 
 /// An item: `new SERIES NUMBER`, `again SERIES NUMBER MOMENT`, `fill SERIES NUMBER TO MOMENT`.

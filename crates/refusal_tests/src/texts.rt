@@ -2,6 +2,7 @@
 
 use fix_frame::{FrameError, is_body, write_frame};
 use gate_io::NoMemory;
+use row_text::{BUYER, signed};
 use std::alloc::Global;
 
 /// 2026-01-05 09:30:00.000
@@ -9,16 +10,7 @@ pub const T: u64 = 1_767_605_400_000;
 
 /// The bytes of a text in which `|` stands for SOH and `(n)` for BUYER's header with the number n.
 pub fn soh(alloc: Global, text: &str) -> Result<Vec<u8>, NoMemory> {
-    let mut bytes = Vec::new(alloc);
-    for byte in text.as_bytes() {
-        match *byte {
-            b'|' => bytes.push(1)?,
-            b'(' => bytes.extend_from_slice(b"49=BUYER\x0156=GATE\x0134=")?,
-            b')' => bytes.extend_from_slice(b"\x0152=20260105-09:30:00.000\x01")?,
-            _ => bytes.push(*byte)?,
-        }
-    }
-    Ok(bytes)
+    signed(alloc, text, &BUYER)
 }
 
 /// The frame of the body with this text, or the bytes of a text that is none.

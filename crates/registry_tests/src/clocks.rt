@@ -1,13 +1,13 @@
 //! Rows of deadlines, of silent libraries, and of lease words as numbers.
 ghost use Rattle.std.specs.Prelude.{◌≡◌, ◌<◌, ◌≤◌, length};
 
-use crate::answers::{Found, made, shown, text};
 use crate::parts::word_of;
 use crate::rows::Played;
 use gate_io::NoMemory;
 use lease_core::{Word, read_word, write_word};
 use library_clock::{Deadlines, Watch};
 use row_text::Words;
+use row_text::answers::{Answer, made, shown, text};
 use std::alloc::Global;
 
 /// What is done to deadlines.
@@ -54,7 +54,7 @@ impl Timers {
 }
 
 impl Played for Timers {
-    fn answer(&mut self, alloc: Global, command: &str) -> Option<Found> {
+    fn answer(&mut self, alloc: Global, command: &str) -> Option<Answer> {
         let mut words = Words::of(command);
         let setting = setting_of(&mut words)?;
         if !words.is_over() {
@@ -94,7 +94,7 @@ impl Beats {
         })
     }
 
-    fn note(&mut self, alloc: Global, library: u8, beat: u64, moment: u64) -> Found {
+    fn note(&mut self, alloc: Global, library: u8, beat: u64, moment: u64) -> Answer {
         if library == 0 || library > self.libraries {
             return text(alloc, "no library");
         }
@@ -111,7 +111,7 @@ fn note_of(words: &mut Words<'_>) -> Option<(u8, u64, u64)> {
 }
 
 impl Played for Beats {
-    fn answer(&mut self, alloc: Global, command: &str) -> Option<Found> {
+    fn answer(&mut self, alloc: Global, command: &str) -> Option<Answer> {
         let mut words = Words::of(command);
         let (library, beat, moment) = note_of(&mut words)?;
         if !words.is_over() {
@@ -140,7 +140,7 @@ fn asked_of(words: &mut Words<'_>) -> Option<Asked> {
     })
 }
 
-fn written(alloc: Global, word: Word) -> Found {
+fn written(alloc: Global, word: Word) -> Answer {
     if word.lease >= 1 << 24 || word.owner >= 64 {
         return text(alloc, "no number");
     }
@@ -148,7 +148,7 @@ fn written(alloc: Global, word: Word) -> Found {
 }
 
 impl Played for Numbers {
-    fn answer(&mut self, alloc: Global, command: &str) -> Option<Found> {
+    fn answer(&mut self, alloc: Global, command: &str) -> Option<Answer> {
         let mut words = Words::of(command);
         let asked = asked_of(&mut words)?;
         if !words.is_over() {

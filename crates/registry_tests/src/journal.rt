@@ -3,12 +3,12 @@ ghost use Rattle.std.specs.Prelude.{◌≡◌};
 ghost use Rattle.std.specs.Option.{ForSome};
 
 use crate::acts::{Act, play};
-use crate::answers::{Found, made, shown, shown_at, text};
 use crate::parts::{entry_of, word_of};
 use crate::rows::Played;
 use gate_io::NoMemory;
 use lease_core::{Entry, Recovery, Registry};
 use row_text::Words;
+use row_text::answers::{Answer, made, shown, shown_some, text};
 use std::alloc::Global;
 
 /// What is asked of the registry, or of the entries that were read.
@@ -115,11 +115,11 @@ fn read(recovery: &mut Recovery, entry: Entry) -> Result<bool, NoMemory>
     Ok(is_next)
 }
 
-fn run_fact(alloc: Global, registry: &Registry, fact: Fact) -> Found {
+fn run_fact(alloc: Global, registry: &Registry, fact: Fact) -> Answer {
     match fact {
-        Fact::Entry(place) => shown_at(alloc, registry.entries(), place),
+        Fact::Entry(place) => shown_some(alloc, registry.entries().get(place)),
         Fact::Entries => shown(alloc, &registry.entries().len()),
-        Fact::Holding(place) => shown_at(alloc, registry.holdings(), place),
+        Fact::Holding(place) => shown_some(alloc, registry.holdings().get(place)),
         Fact::Holdings => shown(alloc, &registry.holdings().len()),
         Fact::Owner => shown(alloc, &registry.owner()),
         Fact::Inbound => shown(alloc, &registry.in_len()),
@@ -132,9 +132,9 @@ fn run_fact(alloc: Global, registry: &Registry, fact: Fact) -> Found {
 }
 
 // The facts of entries that are read back.
-fn read_fact(alloc: Global, recovery: &Recovery, fact: Fact) -> Found {
+fn read_fact(alloc: Global, recovery: &Recovery, fact: Fact) -> Answer {
     match fact {
-        Fact::Entry(place) => shown_at(alloc, recovery.entries(), place),
+        Fact::Entry(place) => shown_some(alloc, recovery.entries().get(place)),
         Fact::Entries => shown(alloc, &recovery.entries().len()),
         _ => text(alloc, "no registry"),
     }
@@ -159,7 +159,7 @@ impl Journal {
         })
     }
 
-    fn act(&mut self, alloc: Global, act: Act) -> Found {
+    fn act(&mut self, alloc: Global, act: Act) -> Answer {
         let Some(mut registry) = self.registry.take() else {
             return text(alloc, "no registry");
         };
@@ -168,7 +168,7 @@ impl Journal {
         shown(alloc, &answer)
     }
 
-    fn is(&self, alloc: Global, asked: Fact) -> Found {
+    fn is(&self, alloc: Global, asked: Fact) -> Answer {
         match (&self.registry, &self.recovery) {
             (Some(registry), _) => run_fact(alloc, registry, asked),
             (None, Some(recovery)) => read_fact(alloc, recovery, asked),
@@ -186,7 +186,7 @@ impl Journal {
         Ok(is_next)
     }
 
-    fn accepts(&self, alloc: Global, entry: Entry) -> Found {
+    fn accepts(&self, alloc: Global, entry: Entry) -> Answer {
         match &self.recovery {
             Some(recovery) => shown(alloc, &recovery.accepts(&entry)),
             None => text(alloc, "nothing"),
@@ -212,7 +212,7 @@ impl Journal {
         Ok(true)
     }
 
-    fn does(&mut self, alloc: Global, deed: Deed) -> Found {
+    fn does(&mut self, alloc: Global, deed: Deed) -> Answer {
         match deed {
             Deed::Acts(act) => self.act(alloc, act),
             Deed::Is(fact) => self.is(alloc, fact),
@@ -225,7 +225,7 @@ impl Journal {
 }
 
 impl Played for Journal {
-    fn answer(&mut self, alloc: Global, command: &str) -> Option<Found> {
+    fn answer(&mut self, alloc: Global, command: &str) -> Option<Answer> {
         let mut words = Words::of(command);
         let name = words.word()?;
         let deed = deed_of(name, &mut words)?;

@@ -10,7 +10,6 @@
 #![tactic(auto)]
 
 mod acts;
-mod answers;
 mod clocks;
 mod deadlines;
 mod draw;

@@ -1,10 +1,10 @@
 //! Rows, each played from its outset.
 
-use crate::answers::{Found, MADE};
 use crate::clocks::{Beats, Numbers, Timers};
 use crate::journal::Journal;
 use anyhow::Result;
 use gate_io::NoMemory;
+use row_text::answers::{Answer, MADE};
 use row_text::{Course, Fault, Player, Row, Step, Words};
 use std::alloc::Global;
 
@@ -12,7 +12,7 @@ use std::alloc::Global;
 pub(crate) trait Played {
     /// Plays a command, and answers what it came to. It is None where the command isn't known, or has a word too few or
     /// too many.
-    fn answer(&mut self, alloc: Global, command: &str) -> Option<Found>;
+    fn answer(&mut self, alloc: Global, command: &str) -> Option<Answer>;
 }
 
 // How a step that came to this differs from what it wants.

@@ -2,11 +2,12 @@
 
 use crate::libraries::library;
 use crate::records::{lines, run};
-use crate::texts::{T, soh};
+use crate::texts::T;
 use gate_io::Bytes;
 use lease_core::{Standing, Why, Word};
 use lease_words::Sent;
 use library_api::{AskError, Event, HandRefusal, ReleaseRefusal, Released, SendRefusal};
+use row_text::soh;
 use run_report::Call;
 use std::alloc::Global;
 use std::test::Fail;

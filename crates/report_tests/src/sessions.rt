@@ -1,9 +1,9 @@
 //! What a run leaves of a session, made entry by entry.
 
-use crate::texts::soh;
 use gate_io::{Bytes, LAST_MOMENT};
 use lease_core::{Entry, Recovery, Registry};
 use message_log::{InLog, LAST_SERIES, OutEntry, OutLog};
+use row_text::soh;
 use session_book::SessionRecord;
 use session_core::Names;
 use std::alloc::Global;

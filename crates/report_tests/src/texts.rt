@@ -1,20 +1,12 @@
-//! Texts in which `|` stands for SOH, and their frames.
+//! Frames of texts in which `|` stands for SOH.
 
 use fix_frame::{is_body, write_frame};
+use row_text::soh;
 use std::alloc::Global;
 use std::test::Fail;
 
 /// 2026-01-05 09:30:00.000
 pub const T: u64 = 1_767_605_400_000;
-
-/// The bytes of a text in which `|` stands for SOH.
-pub fn soh(alloc: Global, text: &str) -> Result<Vec<u8>, Fail> {
-    let mut bytes = Vec::new(alloc);
-    for byte in text.as_bytes() {
-        bytes.push(if *byte == b'|' { 1 } else { *byte })?;
-    }
-    Ok(bytes)
-}
 
 /// The frames of these bodies, one behind the other.
 pub fn frames(alloc: Global, texts: &[&str]) -> Result<Vec<u8>, Fail> {

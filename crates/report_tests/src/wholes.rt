@@ -3,11 +3,12 @@
 use crate::libraries::library;
 use crate::records::run;
 use crate::sessions::{Numbered, session};
-use crate::texts::{frames, soh};
+use crate::texts::frames;
 use connection_core::ConnRecord;
 use gate_io::Bytes;
 use lease_core::{Entry, Why};
 use library_api::{Event, Released};
+use row_text::soh;
 use run_report::{Call, LibReport, report_text};
 use session_core::Cause;
 use std::alloc::Global;

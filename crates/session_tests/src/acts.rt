@@ -2,9 +2,9 @@
 
 use crate::desk::Desk;
 use crate::steps::Answer;
-use crate::texts::{T, legible};
+use crate::texts::T;
 use gate_io::{Bytes, LAST_MOMENT, NoMemory};
-use row_text::{Words, done, said, shown};
+use row_text::{Words, done, legible, said, shown};
 use session_core::Act;
 use std::alloc::Global;
 use std::fmt::Write;

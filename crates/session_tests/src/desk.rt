@@ -4,8 +4,9 @@ ghost use Rattle.gate_io.specs.declared.clocks.TheConstants.{LAST_MOMENT};
 ghost use Rattle.seq_gaps.specs.declared.offered.TheConstants.{MAX_NUMBER};
 ghost use Rattle.session_core.specs.declared.phases.Phase.TheVariants.{Off};
 
-use crate::texts::{T, legible, soh};
+use crate::texts::{T, soh};
 use gate_io::{LAST_MOMENT, NoMemory};
+use row_text::legible;
 use session_core::{Act, Admin, Effects, Names, Session, admin_body};
 use std::alloc::Global;
 use std::fmt::Write;

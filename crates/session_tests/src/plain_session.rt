@@ -1,9 +1,9 @@
 //! The rules told once more, slowly and in another way: bodies are kept whole and read again as they
 //! are carried out, and what follows is written down as text at once.
 
-use crate::texts::legible;
 use fix_fields::{Fields, read_number};
 use gate_io::NoMemory;
+use row_text::legible;
 use std::alloc::Global;
 use std::fmt::Write;
 

@@ -1,11 +1,11 @@
 //! What the engine does in a row.
 ghost use Rattle.std.specs.Prelude.{◌≡◌};
 
-use crate::answers::{Answer, lease, made, shown, shown_some, text, with_body};
 use crate::engine::Engine;
 use lease_core::{Word, write_word};
 use lease_words::Item;
 use row_text::Words;
+use row_text::answers::{Answer, lease, made, shown, shown_some, text, with_body};
 use std::alloc::Global;
 
 /// An act of the engine, mostly on a session.
@@ -57,15 +57,15 @@ pub(crate) fn do_act(alloc: Global, engine: &mut Engine<'_>, act: Act) -> Answer
     ensures { engine.new.leases ≡ engine.old.leases }
 {
     match act {
-        Act::Look(s) => shown_some(alloc, &engine.look(s)),
+        Act::Look(s) => shown_some(alloc, engine.look(s).as_ref()),
         Act::Number(s) => number(alloc, engine.look(s)),
         Act::Grant(s, library) => {
             engine.look(s);
             lease(alloc, engine.grant(s, library))
         }
-        Act::Revoke(s) => shown_some(alloc, &engine.revoke(s)),
+        Act::Revoke(s) => shown_some(alloc, engine.revoke(s).as_ref()),
         Act::Take(s) => shown_item(alloc, engine.take(s)),
         Act::Publish(count) => made(alloc, engine.publish(count)),
-        Act::Beats(library) => shown_some(alloc, &engine.beats(library)),
+        Act::Beats(library) => shown_some(alloc, engine.beats(library).as_ref()),
     }
 }

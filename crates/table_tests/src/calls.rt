@@ -1,9 +1,9 @@
 //! What library 1 calls in a row.
 ghost use Rattle.std.specs.Prelude.{◌≡◌};
 
-use crate::answers::{Answer, body_of, lease, made, shown, shown_some};
 use crate::library::Library;
 use row_text::Words;
+use row_text::answers::{Answer, body_of, lease, made, shown, shown_some};
 use std::alloc::Global;
 
 /// A call of library 1, mostly on a session.
@@ -59,8 +59,8 @@ pub(crate) fn make_call(alloc: Global, library: &mut Library<'_>, call: Call<'_>
             send(alloc, library, s, word)
         }
         Call::SendOn(s, word) => send(alloc, library, s, word),
-        Call::Release(s) => shown_some(alloc, &library.release(s)),
-        Call::ReleaseTo(s, heir) => shown_some(alloc, &library.release_to(s, heir)),
+        Call::Release(s) => shown_some(alloc, library.release(s).as_ref()),
+        Call::ReleaseTo(s, heir) => shown_some(alloc, library.release_to(s, heir).as_ref()),
         Call::Arrived(s) => shown(alloc, &library.arrived(s)),
         Call::Beat => {
             library.beat();

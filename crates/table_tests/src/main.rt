@@ -9,7 +9,6 @@
 #![tactic(auto)]
 
 mod acts;
-mod answers;
 mod calls;
 mod draw;
 mod engine;

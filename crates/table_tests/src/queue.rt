@@ -1,11 +1,11 @@
 //! Rings in rows, whose two ends are called in turn.
 ghost use Rattle.std.specs.Prelude.{◌≡◌, ◌≤◌, ◌<◌};
 
-use crate::answers::{Answer, made, shown, text};
 use crate::rows::Played;
 use gate_io::NoMemory;
 use ring_links::{Full, Head, Ring, Room, Tail, ring};
 use row_text::Words;
+use row_text::answers::{Answer, made, shown, text};
 use std::alloc::Global;
 use std::fmt::Debug;
 

@@ -1,11 +1,11 @@
 //! Rows, each played from its outset.
 
-use crate::answers::{Answer, MADE, text};
 use crate::making::{Made, Outset, make, outset_of};
 use crate::queue::{Load, Queue};
 use crate::sides::Sides;
 use anyhow::Result;
 use gate_io::NoMemory;
+use row_text::answers::{Answer, MADE, text};
 use row_text::{Course, Fault, Player, Row, Step, Words};
 use std::alloc::Global;
 use std::fmt::Debug;

@@ -4,13 +4,13 @@ ghost use Rattle.std.specs.Option.{ForSome};
 ghost use Rattle.lease_words.specs.Views.{engine_at};
 
 use crate::acts::{Act, act_of, do_act};
-use crate::answers::{Answer, made, text};
 use crate::calls::{Call, call_of, make_call};
 use crate::engine::Engine;
 use crate::library::Library;
 use crate::rows::Played;
 use lease_words::{EngineSeat, Leases, LibrarySeat};
 use row_text::Words;
+use row_text::answers::{Answer, made, text};
 use std::alloc::Global;
 
 /// What is done in a row.
