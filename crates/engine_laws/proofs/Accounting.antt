@@ -1,12 +1,14 @@
--- What is known of happenings, for whatever steps keep of a board, and of steps one after another.
-use Rattle.std.proofs.Common.{◌≡◌, ◌≢◌, ℕ, zero, suc, List, [], ◌∷◌, None, subst, sym}
+-- What is known of happenings, for whatever steps keep of a board.
+use Rattle.std.proofs.Common.{◌≡◌, ◌≢◌, ℕ, ◌<◌, ◌≤◌, List, [], ◌∷◌, length, None}
 use Rattle.std.specs.List.{All}
-use Rattle.engine_laws.specs.Account.{IsAside, KeepsAccount, Progress, all_done, cutting, handling, only}
-use Rattle.lease_desk.specs.Desk.{InTurn}
+use Rattle.engine_laws.specs.Account.{IsAccountedFor, IsAside, KeepsAccount, Progress, StaysAccountedFor, all_done, cutting, handling, only}
+use Rattle.lease_core.specs.declared.entry.Entry.{Entry}
 use Rattle.session_core.specs.declared.causes.Cause.{Cause}
-use Rattle.switchboard.specs.Board.{Board, connection_at}
+use Rattle.switchboard.specs.Board.{Board, book_at, connection_at}
 use Rattle.switchboard.specs.Brought.{good_bodies}
 use Rattle.switchboard.specs.Happenings.{Happening, Happens, Reaches, accepts, binds, binds_and_ends, dials, ends_unbound, gives, next_pieces, receives, takes}
+use Rattle.switchboard.specs.Ready.{IsFirst}
+use Rattle.switchboard.specs.Told.{machines_of}
 
 -- what steps at a moment keep of a board, as the connections come from one progress to another
 abbrev pub Keeping : Type 1
@@ -32,9 +34,40 @@ pub record StepLaws (Keeps : Keeping) : Type 0 where
 abbrev pub AccountLaws : Type 0
 AccountLaws = StepLaws KeepsAccount
 
--- steps of one kind, one after another, of something
-pub each_in_turn : {T : Type 0} (Step : ℕ → T → T → Type 0) (Keeps : T → T → Type 0) → ((t : T) → Keeps t t) → ((a b c : T) → Keeps a b → Keeps b c → Keeps a c) → ((i : ℕ) (a b : T) → Step i a b → Keeps a b)
-    → (n : ℕ) (old new : T) → InTurn Step n old new → Keeps old new
-each_in_turn Step Keeps itself further each zero old new same = subst (λ t. Keeps old t) (sym same) (itself old)
-each_in_turn Step Keeps itself further each (suc n) old new steps =
-    further old steps.0 new (each_in_turn Step Keeps itself further each n old steps.0 steps.1) (each n steps.0 new steps.2)
+-- what the law of happenings says
+abbrev pub HappeningLaws : Type 0
+HappeningLaws = record {
+  first : (before : ℕ → List Entry) (at : ℕ) (board : Board) → IsFirst before board → ((s : ℕ) → s < length board.sessions → (book_at board s).machine.sent ≤ at) → IsAccountedFor before (machines_of board) at board;
+  itself : (progress : ℕ → Progress) (at : ℕ) (board : Board) → KeepsAccount progress progress at board board;
+  further : (one two three : ℕ → Progress) (at : ℕ) (first second third : Board) → KeepsAccount one two at first second → KeepsAccount two three at second third → KeepsAccount one three at first third;
+  aside : (progress : ℕ → Progress) (at : ℕ) (happenings : List Happening) (old new : Board) → All (IsAside at) happenings → Reaches happenings old new → KeepsAccount progress progress at old new;
+  accepts : (number at : ℕ) (old new : Board) → Happens (accepts number at) old new → StaysAccountedFor at old new;
+  dials : (s number at : ℕ) (old new : Board) → Happens (dials s number at) old new → StaysAccountedFor at old new;
+  takes : (k : ℕ) (bytes : List ℕ) (at : ℕ) (old new : Board) → Happens (takes k bytes) old new → KeepsAccount all_done (only k cutting) at old new;
+  gives_none : (k at : ℕ) (old new : Board) → Happens (gives k) old new → good_bodies (next_pieces (connection_at old k)) ≡ [] → KeepsAccount (only k cutting) (only k cutting) at old new;
+  gives_one : (k at : ℕ) (body : List ℕ) (old new : Board) → Happens (gives k) old new → good_bodies (next_pieces (connection_at old k)) ≡ body ∷ [] → KeepsAccount (only k cutting) (only k (handling body)) at old new;
+  gives_last : (k at : ℕ) (old new : Board) → Happens (gives k) old new → next_pieces (connection_at old k) ≡ [] → KeepsAccount (only k cutting) all_done at old new;
+  stops : (k at : ℕ) (board : Board) → (connection_at board k).cause ≢ None → KeepsAccount (only k cutting) all_done at board board;
+  receives : (s k : ℕ) (body : List ℕ) (at : ℕ) (old new : Board) → Happens (receives s k body at) old new → KeepsAccount (only k (handling body)) (only k cutting) at old new;
+  binds : (s k : ℕ) (body : List ℕ) (at : ℕ) (old new : Board) → Happens (binds s k body at) old new → KeepsAccount (only k (handling body)) (only k cutting) at old new;
+  binds_and_ends : (s k : ℕ) (body : List ℕ) (at : ℕ) (cause : Cause) (old new : Board) → Happens (binds_and_ends s k body at cause) old new → KeepsAccount (only k (handling body)) (only k cutting) at old new;
+  refuses : (k : ℕ) (body : List ℕ) (at : ℕ) (cause : Cause) (old new : Board) → Happens (ends_unbound k cause) old new → KeepsAccount (only k (handling body)) (only k cutting) at old new;
+}
+
+pub account_laws : HappeningLaws → AccountLaws
+account_laws are = record {
+  itself = are.itself;
+  further = are.further;
+  aside = are.aside;
+  accepts = are.accepts;
+  dials = are.dials;
+  takes = are.takes;
+  gives_none = are.gives_none;
+  gives_one = are.gives_one;
+  gives_last = are.gives_last;
+  stops = are.stops;
+  receives = are.receives;
+  binds = are.binds;
+  binds_and_ends = are.binds_and_ends;
+  refuses = are.refuses;
+}

@@ -1,9 +1,8 @@
 -- What belongs to one of them changes, and one connection has come so far.
 use Rattle.std.proofs.Common.{◌≡◌, ◌≢◌, inl, inr, ℕ, cond, refl, sym, ap, subst}
-use Rattle.std.proofs.lemmas.Bool.{eq-eqb, ne_eqb}
+use Rattle.std.proofs.lemmas.Bool.{cases_eq as same_or_other, eq-eqb, ne_eqb}
 use Rattle.switchboard.specs.Told.{changed_at}
 use Rattle.engine_laws.specs.Account.{Progress, done, only}
-use Rattle.engine_laws.proofs.Standing.{same_or_other}
 
 pub changed_here : {T : Type 0} (s : ℕ) (change : T → T) (all : ℕ → T) → changed_at s change all s ≡ change (all s)
 changed_here s change all = ap (λ b. cond b (change (all s)) (all s)) (eq-eqb s s refl)

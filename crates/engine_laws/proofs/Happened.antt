@@ -1,5 +1,6 @@
 -- Each happening, and each list of those aside, is accounted for.
 use Rattle.std.proofs.Common.{◌≡◌, ◌≢◌, inl, inr, ℕ, ◌<◌, ◌≤◌, List, [], ◌∷◌, ◌++◌, drop, length, take, get_or, true, false, ◌-◌, Option, None, Some, refl, sym, ap, subst, ◌∙◌, arith}
+use Rattle.std.proofs.lemmas.Bool.{cases_eq as same_or_other}
 use Rattle.std.specs.Option.{option_map_or}
 use Rattle.std.proofs.Math.Seq.{get_or-append_seam}
 use Rattle.std.proofs.lemmas.List.{get_or-set_same, length_push}
@@ -14,7 +15,7 @@ use Rattle.session_core.specs.declared.causes.Cause.{Cause}
 use Rattle.engine_laws.specs.Account.{IsAccountedFor, IsAside, IsHandledTo, KeepsAccount, Progress, StandsOrNamesSession, StaysAccountedFor, all_done, cutting, done, handling, in_hand_at, only}
 use Rattle.engine_laws.proofs.Connections.{connections_on, none_handled}
 use Rattle.engine_laws.proofs.Changed.{changed_here, changed_there, only_here, only_there}
-use Rattle.engine_laws.proofs.Standing.{Follows, LeavesBytes, does_neither, follows, named, none_is, plugged, same_or_other, stood_or_named}
+use Rattle.engine_laws.proofs.Standing.{Follows, LeavesBytes, does_neither, follows, named, none_is, plugged, stood_or_named}
 use Rattle.switchboard.specs.Board.{Board, book_at, connection_at, no_connection}
 use Rattle.switchboard.specs.Brought.{Brought, IsBrought, IsInHand, TakesWhatIsInHand, brought_after, good_bodies, nothing_brought, with_first_handled, with_pieces}
 use Rattle.switchboard.specs.Going.{GoesOnTo, KeepsBytes, is_coming, is_quiet}

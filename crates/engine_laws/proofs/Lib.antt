@@ -3,6 +3,7 @@ mod text_lemmas
 mod Accounting
 mod Changed
 mod Connections
+mod Endings
 mod Happened
 mod LibrarySteps
 mod Lines
@@ -11,3 +12,4 @@ mod Standing
 mod Stopped
 mod Stopping
 mod Turns
+mod Walking

@@ -2,7 +2,8 @@
 use Rattle.std.proofs.Common.{◌≡◌, inl, inr, ℕ, [], ◌∷◌, length, refl, ap}
 use Rattle.std.proofs.lemmas.List.Elements.{All-cons, All-nil, All-weaker}
 use Rattle.engine_laws.specs.Account.{IsAside, all_done}
-use Rattle.engine_laws.proofs.Accounting.{Keeping, StepLaws, each_in_turn}
+use Rattle.engine_laws.proofs.Accounting.{Keeping, StepLaws}
+use Rattle.engine_laws.proofs.Walking.{each_in_turn}
 use Rattle.engine_laws.proofs.Sessions.{alone, itself}
 use Rattle.lease_core.specs.declared.messages.Notice.{Notice}
 use Rattle.lease_desk.specs.Desk.{InTurn, TakesBackFrom, bodies_of}

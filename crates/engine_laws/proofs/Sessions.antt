@@ -1,47 +1,17 @@
 -- What a session does in a turn is accounted for.
-use Rattle.std.proofs.Common.{◌≡◌, ℕ, List, [], ◌∷◌, ◌++◌, Bool, true, false, Option, None, Some, Result, Ok, Err, refl, sym, subst}
-use Rattle.std.specs.Prelude.{if◌then◌else◌, nat_lt}
-use Rattle.std.specs.List.{All}
-use Rattle.std.proofs.lemmas.List.Elements.{All-append, All-cons, All-nil}
+use Rattle.std.proofs.Common.{◌≡◌, ℕ, List, [], ◌∷◌, ◌++◌, Option, None, Some, Result, Ok, Err, refl, sym, subst}
+use Rattle.std.proofs.lemmas.List.Elements.{All-append, All-cons}
 use Rattle.engine_laws.specs.Account.{IsAside, Progress, all_done, cutting, handling, only}
 use Rattle.engine_laws.proofs.Accounting.{Keeping, StepLaws}
+use Rattle.engine_laws.proofs.Endings.{answering_is, ending_is, lapsing_is, one_is, parting_is}
 use Rattle.lease_core.specs.State.{state_of}
 use Rattle.lease_desk.specs.Desk.{Gathers, bodies_of}
 use Rattle.lease_desk.specs.declared.desk.LeaseDesk.{LeaseDesk}
 use Rattle.session_book.specs.Records.{Pending}
 use Rattle.session_core.specs.declared.causes.Cause.{Cause}
-use Rattle.session_desk.specs.Steps.{DialsTo, GreetsAs, Hears, Ticks, answering, binding, ending, is_answer, lapsing, parting}
+use Rattle.session_desk.specs.Steps.{DialsTo, GreetsAs, Hears, Ticks, answering, binding, ending, lapsing, parting}
 use Rattle.switchboard.specs.Board.{Board, book_at, place_at}
-use Rattle.switchboard.specs.Happenings.{Happening, Happens, Reaches, answers, ends_bound, lapses, reserves, shows, ticks}
-
-module _ (at : ℕ) where
-  none_aside : All (IsAside at) []
-  none_aside = All-nil (IsAside at)
-
-  one_aside : (happening : Happening) → IsAside at happening → All (IsAside at) (happening ∷ [])
-  one_aside happening is = All-cons (IsAside at) happening [] is none_aside
-
-  answering_aside : (is : Bool) (k : ℕ) → All (IsAside at) (if is then answers k ∷ [] else [])
-  answering_aside true k = one_aside (answers k) tt
-  answering_aside false k = none_aside
-
-  ending_aside : (s : ℕ) (place : Option ℕ) (end : Option Cause) → All (IsAside at) (ending s place end)
-  ending_aside s None None = none_aside
-  ending_aside s None (Some cause) = none_aside
-  ending_aside s (Some k) None = none_aside
-  ending_aside s (Some k) (Some cause) = one_aside (ends_bound s k cause) tt
-
-  lapsing_at_once : (is : Bool) (s : ℕ) → All (IsAside at) (if is then [] else lapses s ∷ [])
-  lapsing_at_once true s = none_aside
-  lapsing_at_once false s = one_aside (lapses s) tt
-
-  lapsing_aside : (s : ℕ) (reserved : Option (ℕ × ℕ)) (now : ℕ) → All (IsAside at) (lapsing s reserved now)
-  lapsing_aside s None now = none_aside
-  lapsing_aside s (Some reserved) now = lapsing_at_once (nat_lt now reserved.1) s
-
-  parting_aside : (session : Option ℕ) (k : ℕ) (cause : Cause) → IsAside at (parting session k cause)
-  parting_aside None k cause = tt
-  parting_aside (Some s) k cause = tt
+use Rattle.switchboard.specs.Happenings.{Happening, Happens, Reaches, reserves, shows, ticks}
 
 module _ {Keeps : Keeping} (g : StepLaws Keeps) where
   -- nothing happens
@@ -51,14 +21,14 @@ module _ {Keeps : Keeping} (g : StepLaws Keeps) where
   pub gathered : (progress : ℕ → Progress) (s at until : ℕ) (old new : LeaseDesk) → Gathers s at until old new → Keeps progress progress at old.board new.board
   gathered progress s at until old new is =
       let shown = shows s is.word (bodies_of is.items) at until in
-      g.aside progress at (reserves s ∷ shown ∷ []) old.board new.board (All-cons (IsAside at) (reserves s) (shown ∷ []) tt (one_aside at shown refl)) is.reaches
+      g.aside progress at (reserves s ∷ shown ∷ []) old.board new.board (All-cons (IsAside at) (reserves s) (shown ∷ []) tt (one_is (IsAside at) shown refl)) is.reaches
 
   pub heard : (s k : ℕ) (body : List ℕ) (at until : ℕ) (old new : LeaseDesk) (unkept_old unkept_new : List Pending) (end : Option Cause) → Hears s k body at until old new unkept_old unkept_new end
       → Keeps (only k (handling body)) (only k cutting) at old.board new.board
   heard s k body at until old new unkept_old unkept_new end is =
       let before = is.gathered in
       let follows = is.follows in
-      let rest = All-append (IsAside at) (answering k end) (ending s (Some k) end) (answering_aside at (is_answer end) k) (ending_aside at s (Some k) end) in
+      let rest = All-append (IsAside at) (answering k end) (ending s (Some k) end) (answering_is (IsAside at) k end tt) (ending_is (IsAside at) s (Some k) end (λ k cause. tt)) in
       g.further (only k (handling body)) (only k (handling body)) (only k cutting) at old.board before.board new.board (gathered (only k (handling body)) s at until old before is.gathers)
       (g.further (only k (handling body)) (only k cutting) (only k cutting) at before.board follows.0 new.board (g.receives s k body at before.board follows.0 follows.1.0)
       (g.aside (only k cutting) at (answering k end ++ ending s (Some k) end) follows.0 new.board rest follows.1.1))
@@ -77,7 +47,7 @@ module _ {Keeps : Keeping} (g : StepLaws Keeps) where
 
   -- its reservation lapses, where that is over
   pub lapsed : (progress : ℕ → Progress) (s : ℕ) (reserved : Option (ℕ × ℕ)) (at : ℕ) (old new : Board) → Reaches (lapsing s reserved at) old new → Keeps progress progress at old new
-  lapsed progress s reserved at old new is = g.aside progress at (lapsing s reserved at) old new (lapsing_aside at s reserved at) is
+  lapsed progress s reserved at old new is = g.aside progress at (lapsing s reserved at) old new (lapsing_is (IsAside at) s reserved at tt) is
 
   pub ticked : (s at until : ℕ) (old new : LeaseDesk) (end : Option Cause) → Ticks s at until old new end → Keeps all_done all_done at old.board new.board
   ticked s at until old new end is =
@@ -86,7 +56,7 @@ module _ {Keeps : Keeping} (g : StepLaws Keeps) where
       let last = ending s (place_at is.lapsed s) end in
       g.further all_done all_done all_done at old.board before.board new.board (gathered all_done s at until old before is.gathers)
       (g.further all_done all_done all_done at before.board is.lapsed new.board (lapsed all_done s reserved at before.board is.lapsed is.lapses)
-      (g.aside all_done at (ticks s at ∷ last) is.lapsed new.board (All-cons (IsAside at) (ticks s at) last refl (ending_aside at s (place_at is.lapsed s) end)) is.follows))
+      (g.aside all_done at (ticks s at ∷ last) is.lapsed new.board (All-cons (IsAside at) (ticks s at) last refl (ending_is (IsAside at) s (place_at is.lapsed s) end (λ k cause. tt))) is.follows))
 
   pub dialled_to : (s number at until : ℕ) (old new : LeaseDesk) → DialsTo s number at until old new → Keeps all_done all_done at old.board new.board
   dialled_to s number at until old new is =
@@ -95,7 +65,7 @@ module _ {Keeps : Keeping} (g : StepLaws Keeps) where
 
   -- a happening aside
   pub alone : (at : ℕ) (happening : Happening) (old new : Board) → IsAside at happening → Happens happening old new → Keeps all_done all_done at old new
-  alone at happening old new aside is = g.aside all_done at (happening ∷ []) old new (one_aside at happening aside) (new, (is, refl))
+  alone at happening old new aside is = g.aside all_done at (happening ∷ []) old new (one_is (IsAside at) happening aside) (new, (is, refl))
 
   pub parted : (session : Option ℕ) (k : ℕ) (cause : Cause) (at : ℕ) (old new : Board) → Happens (parting session k cause) old new → Keeps all_done all_done at old new
-  parted session k cause at old new is = alone at (parting session k cause) old new (parting_aside at session k cause) is
+  parted session k cause at old new is = alone at (parting session k cause) old new (parting_is (IsAside at) session k cause tt (λ s. tt)) is

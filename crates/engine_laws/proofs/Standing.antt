@@ -1,6 +1,7 @@
 -- Behind whatever happens a connection stands or names a session only where it did before: one that ended unbound stays so.
-use Rattle.std.proofs.Common.{◌≡◌, ◌≢◌, inl, inr, ℕ, zero, suc, ◌<◌, ◌++◌, List, [], ◌∷◌, get_or, length, set, true, Option, None, Some, refl, sym, ap, subst, ◌∙◌, arith}
-use Rattle.std.specs.Prelude.{◌⊎◌, IsNone}
+use Rattle.std.proofs.Common.{◌≡◌, ◌≢◌, inl, inr, ℕ, ◌<◌, ◌++◌, List, [], ◌∷◌, get_or, length, set, true, Option, None, Some, refl, sym, ap, subst, ◌∙◌}
+use Rattle.std.proofs.lemmas.Bool.{cases_eq as same_or_other}
+use Rattle.std.specs.Prelude.{IsNone}
 use Rattle.std.proofs.Math.ListN.{get_or-append}
 use Rattle.std.proofs.lemmas.List.{get_or-set_other, get_or-set_same, length-set}
 use Rattle.connection_core.specs.Connection.{ConnectionState, after_end as after_cause}
@@ -13,12 +14,6 @@ use Rattle.switchboard.specs.Going.{GoesOnTo, KeepsBytes, is_quiet}
 use Rattle.switchboard.specs.Happenings.{BindsTo, BookChanges, ConnectionChanges, EndsBound, Happening, Happens, SessionGoesOn, accepts, answers, binds, binds_and_ends, dials, ends_bound, ends_unbound, gives, lapses, prepares, receives, requests, reserves, shows, takes, ticks, times_out, writes}
 use Rattle.switchboard.specs.Ready.{IsReady}
 use Rattle.switchboard.specs.Sound.{IsPlaced, IsPlugged}
-
-pub same_or_other : (i j : ℕ) → (i ≡ j) ⊎ (i ≢ j)
-same_or_other zero zero = inl refl
-same_or_other zero (suc j) = inr (λ e. absurd (omega arith))
-same_or_other (suc i) zero = inr (λ e. absurd (omega arith))
-same_or_other (suc i) (suc j) = elim (same_or_other i j) [ inl e ↦ inl (ap suc e) | inr n ↦ inr (λ e. n (omega arith)) ]
 
 pub none_is : {T : Type 0} (o : Option T) → IsNone o → o ≡ None
 none_is None is = refl

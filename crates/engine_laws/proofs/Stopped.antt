@@ -3,7 +3,7 @@ use Rattle.std.proofs.Common.{◌≡◌, ◌≢◌, inl, inr, ℕ, ◌+◌, ◌<
 use Rattle.std.specs.List.{All, AllPairs}
 use Rattle.std.proofs.Math.ListN.{get_or-append}
 use Rattle.std.proofs.Math.Seq.{get_or-append_seam}
-use Rattle.std.proofs.lemmas.Bool.{cases_lt}
+use Rattle.std.proofs.lemmas.Bool.{cases_eq as same_or_other, cases_lt}
 use Rattle.std.proofs.lemmas.List.{append-nil, length-append, length_push}
 use Rattle.std.proofs.lemmas.List.Elements.{All-push}
 use Rattle.std.proofs.lemmas.List.Quantifiers.{all_pairs_push}
@@ -27,7 +27,7 @@ use Rattle.engine_laws.specs.Account.{IsAccountedWith, NamesSession, Progress, h
 use Rattle.engine_laws.specs.Stopped.{IsAccountedInPart, IsHandledOf, IsRunInPart, StopsAccountedFor}
 use Rattle.engine_laws.proofs.Changed.{changed_keeps, changed_there, only_here}
 use Rattle.engine_laws.proofs.Connections.{apart_new, apart_unbound, message_more}
-use Rattle.engine_laws.proofs.Standing.{none_is, plugged, same_or_other, some_none}
+use Rattle.engine_laws.proofs.Standing.{none_is, plugged, some_none}
 use Rattle.switchboard.specs.Board.{Board, book_at, connection_at, desk_with, no_connection, place_at}
 use Rattle.switchboard.specs.Going.{IsHeldAsBefore}
 use Rattle.switchboard.specs.Happenings.{binds, dials, receives, ticks}

@@ -3,7 +3,8 @@ use Rattle.std.proofs.Common.{inl, inr, ℕ, ◌+◌, List, [], length, Option, 
 use Rattle.std.specs.Prelude.{◌⊎◌, slice_index_or}
 use Rattle.engine_laws.specs.Account.{Progress, all_done, cutting, handling, only}
 use Rattle.engine_laws.specs.Turns.{board_of}
-use Rattle.engine_laws.proofs.Accounting.{Keeping, StepLaws, each_in_turn}
+use Rattle.engine_laws.proofs.Accounting.{Keeping, StepLaws}
+use Rattle.engine_laws.proofs.Walking.{each_in_turn}
 use Rattle.engine_laws.proofs.LibrarySteps.{answered, expired, some_taken_back}
 use Rattle.engine_laws.proofs.Lines.{read_as, some_handled, written_in_turn}
 use Rattle.engine_laws.proofs.Sessions.{bound_by, gathered, itself, lapsed}

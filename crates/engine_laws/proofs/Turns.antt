@@ -1,14 +1,16 @@
 -- A turn is accounted for.
-use Rattle.std.proofs.Common.{◌≡◌, inl, inr, ℕ, ◌+◌, ◌≤◌, List, [], length, refl, sym, ap, subst, ◌∙◌, arith}
-use Rattle.std.specs.Prelude.{slice_index_or}
+use Rattle.std.proofs.Common.{◌≡◌, inl, inr, ℕ, ◌+◌, ◌≤◌, List, length, refl, sym, ap, subst, ◌∙◌, arith}
 use Rattle.engine_laws.specs.Account.{IsAccountedFor, KeepsAccount, all_done}
 use Rattle.engine_laws.specs.Turns.{EngineStaysAccountedFor, board_of}
-use Rattle.engine_laws.proofs.Accounting.{AccountLaws, Keeping, StepLaws, each_in_turn}
+use Rattle.engine_laws.specs.walks.Walks as walk
+use Rattle.engine_laws.specs.walks.Walks.{QuietStep, TurnStep}
+use Rattle.engine_laws.proofs.Accounting.{AccountLaws, Keeping, StepLaws}
 use Rattle.engine_laws.proofs.LibrarySteps.{served}
 use Rattle.engine_laws.proofs.Lines.{accepted_as, dialled_as, read, written_in_turn}
 use Rattle.engine_laws.proofs.Sessions.{ticked}
+use Rattle.engine_laws.proofs.Walking.{each_in_turn, turn_made, turn_taken, turn_walked}
 use Rattle.engine_loop.specs.Engines.{until_of}
-use Rattle.engine_loop.specs.Turns.{AcceptsNext, AtWire, DialsSession, GivesTurn, HandsOut, MakesTurn, NotesSession, PublishesSession, Reading, ReadsIfStands, ServesOne, Serving, TakesTurn, TicksSession, WritesAll, at_wire, reading_of, serving_of, with_moment}
+use Rattle.engine_loop.specs.Turns.{AcceptsNext, AtWire, DialsSession, HandsOut, MakesTurn, NotesSession, PublishesSession, Reading, ReadsIfStands, ServesOne, Serving, TakesTurn, TicksSession, WritesAll, with_moment}
 use Rattle.engine_loop.specs.declared.engine.Engine.{Engine}
 use Rattle.engine_loop.specs.declared.records.Taken.{Taken}
 use Rattle.engine_loop.specs.declared.records.Turn.{Turn}
@@ -96,13 +98,6 @@ module _ {Keeps : Keeping} (g : StepLaws Keeps) where
             (written_so_far new.sessions.desk old.lines.unkept.items links_new bytes) is.writes;
       }
 
-  -- the second half of a turn
-  turn_given : (old new : AtWire) (taken : Taken) (turn : Turn) → GivesTurn old new taken turn → EngineKeeps Keeps old.engine new.engine
-  turn_given old new taken turn is =
-      let gives = is.gives in
-      step_further old.engine gives.published new.engine (engine_in_turn PublishesSession (length old.engine.sessions.desk.board.sessions) old.engine gives.published session_published gives.publishes)
-      (all_written old.links new.links gives.published new.engine turn.written gives.writes)
-
   pub records_handed_out : (old new : Engine) (records : List Record) → HandsOut old new records → EngineKeeps Keeps old new
   records_handed_out old new records is =
       let noted = is.noted in
@@ -116,32 +111,25 @@ module _ {Keeps : Keeping} (g : StepLaws Keeps) where
       board = served g serves library old.engine.moment (until_of old.engine) old.engine.sessions new.engine.sessions is.turn is.serves;
     }
 
-    -- the first half of a turn, from its moment on
-    pub steps_taken : (reading : ℕ) (old new : AtWire) (taken : Taken) → TakesTurn reading old new taken → EngineKeeps Keeps (with_moment reading old.engine) new.engine
-    steps_taken reading old new taken is =
-        let begun = with_moment reading old.engine in
-        let accepted = is.accepted in
-        let dialled = is.dialled in
-        let places = open_places dialled.engine.lines in
-        step_further begun accepted.engine new.engine (next_accepted taken.accepted (at_wire begun old.door old.links) accepted is.accepts)
-        (step_further accepted.engine dialled.engine new.engine
-        (each_in_turn DialsSession (λ (a b : AtWire). EngineKeeps Keeps a.engine b.engine) (λ a. stays_itself a.engine) (λ a b c. step_further a.engine b.engine c.engine) session_dialled
-        (length accepted.engine.sessions.desk.board.sessions) accepted dialled is.dials)
-        (step_further dialled.engine is.read new.engine
-        (each_in_turn (λ i. ReadsIfStands (slice_index_or places i 0)) (λ (a b : Reading). EngineKeeps Keeps a.engine b.engine) (λ a. stays_itself a.engine)
-        (λ a b c. step_further a.engine b.engine c.engine) (λ i a b. one_read (slice_index_or places i 0) a b) (length places) (reading_of dialled.engine dialled.links [])
-        (reading_of is.read new.links taken.reads) is.reads)
-        (step_further is.read is.ticked new.engine (engine_in_turn TicksSession (length is.read.sessions.desk.board.sessions) is.read is.ticked session_ticked is.ticks)
-        (step_further is.ticked is.served new.engine
-        (each_in_turn (λ i. ServesOne (i + 1)) (λ (a b : Serving). EngineKeeps Keeps a.engine b.engine) (λ a. stays_itself a.engine) (λ a b c. step_further a.engine b.engine c.engine)
-        (λ i a b. one_served (i + 1) a b) (length is.ticked.sessions.ends.items) (serving_of is.ticked []) (serving_of is.served taken.libs) is.serves)
-        (engine_in_turn NotesSession (length is.served.sessions.desk.board.sessions) is.served new.engine session_noted is.notes)))))
+    quiet_step : (old new : AtWire) → QuietStep old new → EngineKeeps Keeps old.engine new.engine
+    quiet_step _ _ (walk.read k door old new is) = one_read k old new is
+    quiet_step _ _ (walk.ticked s door links old new is) = session_ticked s old new is
+    quiet_step _ _ (walk.served i door links old new is) = one_served (i + 1) old new is
+    quiet_step _ _ (walk.noted s door links old new is) = session_noted s old new is
+    quiet_step _ _ (walk.published s door links old new is) = session_published s old new is
+    quiet_step _ _ (walk.written door links_old links_new old new bytes is) = all_written links_old links_new old new bytes is
 
-    -- the whole of it
+    step : (old new : AtWire) → TurnStep old new → EngineKeeps Keeps old.engine new.engine
+    step _ _ (walk.accepted answer old new is) = next_accepted answer old new is
+    step _ _ (walk.dialled s old new is) = session_dialled s old new is
+    step _ _ (walk.quiet old new is) = quiet_step old new is
+
+    -- the first half of a turn, from its moment on, and the whole of it
+    pub steps_taken : (reading : ℕ) (old new : AtWire) (taken : Taken) → TakesTurn reading old new taken → EngineKeeps Keeps (with_moment reading old.engine) new.engine
+    steps_taken reading old new taken is = turn_walked (EngineKeeps Keeps) stays_itself step_further step _ new (turn_taken reading old new taken is)
+
     steps_made : (reading : ℕ) (old new : AtWire) (turn : Turn) → MakesTurn reading old new turn → EngineKeeps Keeps (with_moment reading old.engine) new.engine
-    steps_made reading old new turn is =
-        let middle = is.middle in
-        step_further (with_moment reading old.engine) middle.engine new.engine (steps_taken reading old middle is.taken is.takes) (turn_given middle new is.taken turn is.gives)
+    steps_made reading old new turn is = turn_walked (EngineKeeps Keeps) stays_itself step_further step _ new (turn_made reading old new turn is)
 
 pub accounted_further : AccountLaws → (first second third : Engine) → EngineStaysAccountedFor first second → EngineStaysAccountedFor second third → EngineStaysAccountedFor first third
 accounted_further g first second third one two =

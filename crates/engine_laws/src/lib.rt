@@ -8,6 +8,8 @@
 //!   outbound logs have of a library is what was taken of its lane at the lease table.
 //! - `texts`: a connection that has ended took its outbound text whole, unless the wire counted that a write of it
 //!   failed or was blocked, or more waited on it than a turn writes at most.
+//! - `walks`: of which steps a turn is made, and of which moves a read and what is written to connections. What each of
+//!   those keeps a turn keeps, and the other laws follow it along that.
 //!
 //! It has no code, only laws of the definitions of the crates below.
 #![tactic(auto)]
@@ -15,3 +17,4 @@
 pub mod laws;
 pub mod libraries;
 pub mod texts;
+pub mod walks;

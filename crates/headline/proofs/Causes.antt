@@ -16,6 +16,9 @@ use Rattle.session_core.specs.declared.causes.Cause.TheVariants.{BadLogon, CompI
 use Rattle.session_core.specs.declared.names.Names.{Names}
 use Rattle.session_core.specs.declared.phases.Phase.{Phase}
 use Rattle.session_core.specs.declared.phases.Phase.TheVariants.{Asked, Off, On}
+use Rattle.session_desk.specs.Steps.{bound_on, greeting, session_on, unless_bound}
+use Rattle.session_desk.specs.declared.routes.Routes.{Routes}
+use Rattle.switchboard.specs.Board.{Board}
 use Rattle.headline.specs.Ends.{is_from_outside}
 
 -- no cause, or one of a message
@@ -49,7 +52,7 @@ bound_inner s (Ok terms) inner = tt
 bound_inner s (Err cause) inner = inner
 
 -- by the first message of an unbound connection
-pub route_inner : (fields : List Field) (names : List Names) → IsInnerErr (route fields names)
+route_inner : (fields : List Field) (names : List Names) → IsInnerErr (route fields names)
 route_inner fields names =
     demanded (has_value 35 (codes "A") fields) NotLogon _ refl
     (some_demanded (session_of fields names) NoSuchSession _ refl (λ s. bound_inner s (terms_of fields) (terms_inner fields)))
@@ -151,3 +154,20 @@ received_inner state body at = outcome_inner state.phase state body (result_ok (
 -- by a message on a bound session
 pub message_inner : (state : State) (body : List ℕ) (at : ℕ) (cause : Cause) → (receive state body at).end ≡ Some cause → is_from_outside cause ≡ false
 message_inner state body at cause ends = subst IsInner ends (received_inner state body at)
+
+-- a first message that is refused
+unbound_inner : (bound : Option ℕ) (routed : Result ℕ Cause) → IsInnerErr routed → IsInnerErr (unless_bound bound routed)
+unbound_inner None routed inner = inner
+unbound_inner (Some connection) (Ok a) inner = refl
+unbound_inner (Some connection) (Err NotLogon) inner = refl
+unbound_inner (Some connection) (Err other) inner = refl
+
+on_inner : (routes : Routes) (routed : Result ℕ Cause) → IsInnerErr routed → IsInnerErr (session_on routes routed)
+on_inner routes (Ok j) inner = tt
+on_inner routes (Err cause) inner = inner
+
+pub greeting_inner : (board : Board) (routes : Routes) (fields : Option (List Field)) → IsInnerErr (greeting board routes fields)
+greeting_inner board routes None = refl
+greeting_inner board routes (Some fields) =
+    on_inner routes (unless_bound (bound_on board routes (session_of fields routes.names.items)) (route fields routes.names.items))
+    (unbound_inner (bound_on board routes (session_of fields routes.names.items)) (route fields routes.names.items) (route_inner fields routes.names.items))

@@ -7,8 +7,10 @@ use Rattle.connection_core.specs.Connection.{ConnectionState, fresh, fresh_dial}
 use Rattle.connection_core.specs.Outgoing.{Outlet}
 use Rattle.engine_config.specs.declared.config.Config.{Config}
 use Rattle.engine_end.specs.Records.{accepted_of, dialled_of}
+use Rattle.engine_laws.specs.walks.Walks as walk
+use Rattle.engine_laws.specs.walks.Walks.{TurnStep, Walk}
 use Rattle.engine_loop.specs.Engines.{until_of}
-use Rattle.engine_loop.specs.Turns.{AcceptsNext, AtWire, DialsSession, MakesTurn, TakesTurn, accepted_after, at_wire, with_moment}
+use Rattle.engine_loop.specs.Turns.{AcceptsNext, AtWire, DialsSession, MakesTurn, TakesTurn, accepted_after}
 use Rattle.engine_loop.specs.declared.engine.Engine.{Engine}
 use Rattle.engine_loop.specs.declared.records.Taken.{Taken}
 use Rattle.engine_loop.specs.declared.records.Turn.{Turn}
@@ -19,8 +21,10 @@ use Rattle.gate_io.specs.declared.dials.Dialled.TheVariants as dial
 use Rattle.gate_io.specs.declared.wires.Accepted.{Accepted}
 use Rattle.gate_io.specs.declared.wires.Accepted.TheVariants as accept
 use Rattle.gate_io.specs.declared.wires.TheConstants.{FIRST_DIALLED}
+use Rattle.headline.proofs.Carrying.{StaysAside, each_step}
 use Rattle.headline.proofs.Steady.{Steady, steady_kept, steady_order}
-use Rattle.headline.proofs.Walk.{EngineKeeps, each_in_turn, gathered, gathered_in_turn, turn_given, turn_taken}
+use Rattle.headline.proofs.Walk.{EngineKeeps, gathered, gathered_in_turn, quiet_door, quiet_step}
+use Rattle.headline.proofs.Walking.{WalkLaws, each_in_turn, walked}
 use Rattle.headline.specs.Numbering.{AreInOrder, CountsAsAnswered, IsInOrder, numbers_of}
 use Rattle.lease_desk.specs.Desk.{Gathers, InTurn}
 use Rattle.lease_desk.specs.declared.desk.LeaseDesk.{LeaseDesk}
@@ -32,7 +36,7 @@ use Rattle.library_desk.specs.declared.serving.LibTurn.{LibTurn}
 use Rattle.library_desk.specs.declared.shared.Shared.{Shared}
 use Rattle.script_run.specs.Comes.{ComesAs}
 use Rattle.script_run.specs.Means.{StartsRun}
-use Rattle.script_run.specs.Runs.{CallsBetween, Carries, CarriesAt, CarriesOut, ComesAtWire, Meets, TurnsOver, with_room}
+use Rattle.script_run.specs.Runs.{CallsBetween, Carries, CarriesAt, CarriesOut, Meets, TurnsOver, with_room}
 use Rattle.script_run.specs.declared.run.Run.{Run}
 use Rattle.script_text.specs.declared.steps.LibStep.{LibStep}
 use Rattle.script_text.specs.declared.steps.Step.{Step}
@@ -162,20 +166,23 @@ kept_at door old new keeps was = record {
   connections = steady_order door.accepted door.dialled old.sessions.desk.board new.sessions.desk.board keeps.board was.connections;
 }
 
-module _ (serves : (library at until : ℕ) (old new : LibraryDesk) (turn : LibTurn) → Serves library at until old new turn → RunsFor at old.desk.board new.desk.board) where
-  -- the first half of a turn
-  pub half_taken : (reading : ℕ) (old new : AtWire) (taken : Taken) (takes : TakesTurn reading old new taken) → AtWireInOrder old → AreAt new.engine.accepted takes.dialled.door new.engine.sessions.desk.board
-  half_taken reading old new taken takes was =
-      let accepted = next_accepted taken.accepted (at_wire (with_moment reading old.engine) old.door old.links) takes.accepted takes.accepts was in
-      kept_at takes.dialled.door takes.dialled.engine new.engine (turn_taken Steady steady_kept serves reading old new taken takes)
-      (all_dialled (length takes.accepted.engine.sessions.desk.board.sessions) takes.accepted takes.dialled takes.dials accepted)
+module _ (walks : WalkLaws) (serves : (library at until : ℕ) (old new : LibraryDesk) (turn : LibTurn) → Serves library at until old new turn → RunsFor at old.desk.board new.desk.board) where
+  -- each step of a turn keeps the order
+  turn_step : (old new : AtWire) → TurnStep old new → AtWireInOrder old → AtWireInOrder new
+  turn_step _ _ (walk.accepted answer old new is) was = next_accepted answer old new is was
+  turn_step _ _ (walk.dialled s old new is) was = session_dialled s old new is was
+  turn_step _ _ (walk.quiet old new is) was =
+      subst (λ (d : Door). AreAt new.engine.accepted d new.engine.sessions.desk.board) (sym (quiet_door old new is)) (kept_at old.door old.engine new.engine (quiet_step Steady steady_kept walks serves old new is) was)
+
+  turn_steps : (old new : AtWire) → Walk TurnStep old new → AtWireInOrder old → AtWireInOrder new
+  turn_steps = walked TurnStep (λ a b. AtWireInOrder a → AtWireInOrder b) (λ a i. i) (λ a b c one two i. two (one i)) turn_step
+
+  -- the first half of a turn, and a whole one
+  pub half_taken : (reading : ℕ) (old new : AtWire) (taken : Taken) → TakesTurn reading old new taken → AtWireInOrder old → AtWireInOrder new
+  half_taken reading old new taken is was = turn_steps _ new (walks.takes reading old new taken is) (record { counted = was.counted; connections = was.connections })
 
   pub turn_made : (reading : ℕ) (old new : AtWire) (turn : Turn) → MakesTurn reading old new turn → AtWireInOrder old → AtWireInOrder new
-  turn_made reading old new turn is was =
-      let takes = is.takes in
-      let middle = half_taken reading old is.middle is.taken takes was in
-      let ended = kept_at takes.dialled.door is.middle.engine new.engine (turn_given Steady steady_kept is.middle new is.taken turn is.gives) middle in
-      subst (λ (d : Door). AreAt new.engine.accepted d new.engine.sessions.desk.board) (sym (is.gives.door ∙ takes.door)) ended
+  turn_made reading old new turn is was = turn_steps _ new (walks.turn reading old new turn is) (record { counted = was.counted; connections = was.connections })
 
   abbrev Stays : Run → Run → Type 0
   Stays old new = IsInOrder old → IsInOrder new
@@ -231,25 +238,20 @@ module _ (serves : (library at until : ℕ) (old new : LibraryDesk) (turn : LibT
   at_wire_comes step.Turn old new same = (ap (λ (w : WireState). w.accepted) same, ap (λ (w : WireState). w.dialled) same)
   at_wire_comes (step.Lib library what) old new same = (ap (λ (w : WireState). w.accepted) same, ap (λ (w : WireState). w.dialled) same)
 
-  came : (what : Step) (old new : Run) → ComesAtWire what old new → Stays old new
-  came what old new is =
-      let wire = at_wire_comes what old.wire new.wire is.comes in
-      untouched old new (ap (λ (run : Run). run.engine.accepted) is.rest) (ap (λ (run : Run). run.engine.sessions.desk.board) is.rest) wire.0 wire.1
+  -- the wire stays, or something comes there
+  same_counts : (old new : Run) → StaysAside old new → (new.wire.accepted ≡ old.wire.accepted) × (new.wire.dialled ≡ old.wire.dialled)
+  same_counts old new is = elim is.wire [
+    | inl same ↦ (ap (λ (w : WireState). w.accepted) same, ap (λ (w : WireState). w.dialled) same)
+    | inr comes ↦ at_wire_comes comes.0 old.wire new.wire comes.1
+  ]
+
+  aside : (old new : Run) → StaysAside old new → Stays old new
+  aside old new is =
+      let wire = same_counts old new is in
+      untouched old new (ap (λ (e : Engine). e.accepted) is.engine) (ap (λ (e : Engine). e.sessions.desk.board) is.engine) wire.0 wire.1
 
   pub carried : (what : Step) (old new : Run) → Carries what old new → Stays old new
-  carried (step.At moment) old new is =
-      untouched old new (ap (λ (run : Run). run.engine.accepted) is) (ap (λ (run : Run). run.engine.sessions.desk.board) is) (ap (λ (run : Run). run.wire.accepted) is) (ap (λ (run : Run). run.wire.dialled) is)
-  carried step.Turn old new is = λ was. turned (with_room old) new is (untouched old (with_room old) refl refl refl refl was)
-  carried (step.Lib library what) old new is = called_between what (library - 1) old new is
-  carried step.Connect old new is = came step.Connect old new is
-  carried step.Take old new is = came step.Take old new is
-  carried (step.Bytes c bytes) old new is = came (step.Bytes c bytes) old new is
-  carried (step.Frame c body) old new is = came (step.Frame c body) old new is
-  carried (step.Finish c) old new is = came (step.Finish c) old new is
-  carried (step.FailRead c) old new is = came (step.FailRead c) old new is
-  carried (step.FailWrite c after) old new is = came (step.FailWrite c after) old new is
-  carried (step.Block c after) old new is = came (step.Block c after) old new is
-  carried (step.Unblock c) old new is = came (step.Unblock c) old new is
+  carried = each_step Stays aside (λ old new is was. turned (with_room old) new is (untouched old (with_room old) refl refl refl refl was)) called_between
 
   pub carried_out : (steps : List Step) (count : ℕ) (old new : Run) → CarriesOut steps count old new → Stays old new
   carried_out steps count old new is = each_in_turn (CarriesAt steps) Stays (λ run i. i) (λ a b c one two i. two (one i)) (λ i a b at. carried at.what a b at.carries) count old new is

@@ -7,8 +7,9 @@ use Rattle.engine_loop.specs.Turns.{at_wire}
 use Rattle.engine_loop.specs.declared.engine.Engine.{Engine}
 use Rattle.gate_io.specs.Wire.{Door, Link}
 use Rattle.headline.proofs.Coming.{AtWireInOrder, turn_made}
-use Rattle.headline.proofs.Walk.{each_in_turn}
-use Rattle.headline.proofs.Whole.{EndLaws, turn_whole}
+use Rattle.headline.proofs.Walking.{WalkLaws, each_in_turn}
+use Rattle.headline.proofs.AccountLaws.{AccountLaws}
+use Rattle.headline.proofs.Whole.{turn_whole}
 use Rattle.headline.specs.Ends.{AllEndedWhole, EndedWhole}
 use Rattle.headline.specs.Numbering.{AreInOrder, CountsAsAnswered}
 use Rattle.lease_core.specs.declared.entry.Entry.{Entry}
@@ -33,11 +34,11 @@ first_in_order config moment shared engine door links starts accepted dialled = 
 pub first_ended : (config : Config) (moment : ℕ) (shared : Shared) (engine : Engine) → StartsEngineOf config moment shared engine → AllEndedWhole engine.sessions.desk.board
 first_ended config moment shared engine starts = subst (All EndedWhole) (sym starts.sessions.first.connections) (All-nil EndedWhole)
 
-module _ (serves : (library at until : ℕ) (old new : LibraryDesk) (turn : LibTurn) → Serves library at until old new turn → RunsFor at old.desk.board new.desk.board) where
+module _ (walks : WalkLaws) (serves : (library at until : ℕ) (old new : LibraryDesk) (turn : LibTurn) → Serves library at until old new turn → RunsFor at old.desk.board new.desk.board) where
   once_in_order : (old new : Drive) → DrivesOnce old new → AtWireInOrder old.at → AtWireInOrder new.at
   once_in_order old new is was =
       let one = is.makes in
-      let made = turn_made serves is.reading old.at one.made is.turn one.makes was in
+      let made = turn_made walks serves is.reading old.at one.made is.turn one.makes was in
       let same : at_wire one.made.engine one.made.door new.at.links ≡ new.at =
       ap (λ (e : Engine). at_wire e one.made.door new.at.links) (sym one.engine) ∙ ap (λ (d : Door). at_wire new.at.engine d new.at.links) (sym one.door) in
       subst AtWireInOrder same (record { counted = made.counted; connections = made.connections })
@@ -46,7 +47,7 @@ module _ (serves : (library at until : ℕ) (old new : LibraryDesk) (turn : LibT
   drove_in_order connections libraries count old new is was =
       each_in_turn (λ i. DrivesOn connections libraries) (λ a b. AtWireInOrder a.at → AtWireInOrder b.at) (λ d so. so) (λ a b c one two so. two (one so)) (λ i a b on. once_in_order a b on.drives) count old new is was
 
-module _ (before : ℕ → List Entry) (start : ℕ → State) (g : EndLaws before start) (stays : (old new : Drive) → DrivesOnce old new → IsAccountedDrive before start old → IsAccountedDrive before start new) where
+module _ (before : ℕ → List Entry) (start : ℕ → State) (g : AccountLaws) (stays : (old new : Drive) → DrivesOnce old new → IsAccountedDrive before start old → IsAccountedDrive before start new) where
   abbrev WholeAt : Drive → Type 0
   WholeAt drive = AllEndedWhole drive.at.engine.sessions.desk.board
 

@@ -1,21 +1,22 @@
 -- Over the steps of a script connections end with each whole piece handed out, but for those that a message ends.
-use Rattle.std.proofs.Common.{◌≡◌, ℕ, ◌-◌, List, sym, ap, subst}
+use Rattle.std.proofs.Common.{◌≡◌, ℕ, List, sym, ap, subst}
 use Rattle.std.proofs.lemmas.List.Elements.{All-nil}
 use Rattle.std.specs.List.{All}
 use Rattle.engine_config.specs.declared.config.Config.{Config}
 use Rattle.engine_loop.specs.declared.engine.Engine.{Engine}
-use Rattle.headline.proofs.Walk.{each_in_turn}
-use Rattle.headline.proofs.Whole.{EndLaws, turn_whole}
+use Rattle.headline.proofs.Carrying.{each_step}
+use Rattle.headline.proofs.Walking.{each_in_turn}
+use Rattle.headline.proofs.AccountLaws.{AccountLaws}
+use Rattle.headline.proofs.Whole.{turn_whole}
 use Rattle.headline.specs.Ends.{AllEndedWhole, EndedWhole}
 use Rattle.lease_core.specs.declared.entry.Entry.{Entry}
 use Rattle.library_desk.specs.declared.shared.Shared.{Shared}
 use Rattle.headline.specs.runs.Accounted.{IsAccountedRun}
 use Rattle.script_run.specs.Means.{StartsRun}
-use Rattle.script_run.specs.Runs.{CallsBetween, Carries, CarriesAt, CarriesOut, ComesAtWire, Meets}
+use Rattle.script_run.specs.Runs.{CallsBetween, Carries, CarriesAt, CarriesOut, Meets}
 use Rattle.script_run.specs.declared.run.Run.{Run}
 use Rattle.script_text.specs.declared.steps.LibStep.{LibStep}
 use Rattle.script_text.specs.declared.steps.Step.{Step}
-use Rattle.script_text.specs.declared.steps.Step.TheVariants as step
 use Rattle.session_core.specs.State.{State}
 
 abbrev WholeIn : Run → Type 0
@@ -34,23 +35,12 @@ called_between : (what : LibStep) (place : ℕ) (old new : Run) → CallsBetween
 called_between what place old new is was =
     met place is.called new is.meets_again (same_board is.met is.called (ap (λ (run : Run). run.engine.sessions.desk.board) is.calls.rest) (met place old is.met is.meets was))
 
-came : (what : Step) (old new : Run) → ComesAtWire what old new → WholeIn old → WholeIn new
-came what old new is = same_board old new (ap (λ (run : Run). run.engine.sessions.desk.board) is.rest)
-
-module _ (before : ℕ → List Entry) (start : ℕ → State) (g : EndLaws before start) where
+module _ (before : ℕ → List Entry) (start : ℕ → State) (g : AccountLaws) where
   pub carried : (what : Step) (old new : Run) → Carries what old new → IsAccountedRun before start old → WholeIn old → WholeIn new
-  carried (step.At moment) old new is accounted = same_board old new (ap (λ (run : Run). run.engine.sessions.desk.board) is)
-  carried step.Turn old new is accounted = turn_whole before start g old.clock.moment _ _ is.turn is.turns accounted.engine.ready accounted.engine.account
-  carried (step.Lib library what) old new is accounted = called_between what (library - 1) old new is
-  carried step.Connect old new is accounted = came step.Connect old new is
-  carried step.Take old new is accounted = came step.Take old new is
-  carried (step.Bytes c bytes) old new is accounted = came (step.Bytes c bytes) old new is
-  carried (step.Frame c body) old new is accounted = came (step.Frame c body) old new is
-  carried (step.Finish c) old new is accounted = came (step.Finish c) old new is
-  carried (step.FailRead c) old new is accounted = came (step.FailRead c) old new is
-  carried (step.FailWrite c after) old new is accounted = came (step.FailWrite c after) old new is
-  carried (step.Block c after) old new is accounted = came (step.Block c after) old new is
-  carried (step.Unblock c) old new is accounted = came (step.Unblock c) old new is
+  carried = each_step (λ old new. IsAccountedRun before start old → WholeIn old → WholeIn new)
+      (λ old new is accounted. same_board old new (ap (λ (e : Engine). e.sessions.desk.board) is.engine))
+      (λ old new is accounted. turn_whole before start g old.clock.moment _ _ is.turn is.turns accounted.engine.ready accounted.engine.account)
+      (λ what place old new is accounted. called_between what place old new is)
 
   module _ (stays : (what : Step) (old new : Run) → Carries what old new → IsAccountedRun before start old → IsAccountedRun before start new) where
     abbrev Keeps : Run → Run → Type 0

@@ -1,9 +1,11 @@
 -- No more connections are accepted and dialled than a run is configured with.
-use Rattle.std.proofs.Common.{◌≡◌, inl, inr, ℕ, ◌+◌, ◌<◌, ◌≤◌, length, Option, None, Some, refl, sym, ap, subst, ◌∙◌, arith}
+use Rattle.std.proofs.Common.{◌≡◌, inl, inr, ℕ, ◌+◌, ◌<◌, ◌≤◌, Option, None, Some, refl, sym, ap, subst, ◌∙◌, arith}
 use Rattle.std.specs.Prelude.{IfNone, IfSome}
 use Rattle.engine_config.specs.declared.config.Config.{Config}
+use Rattle.engine_laws.specs.walks.Walks as walk
+use Rattle.engine_laws.specs.walks.Walks.{TurnStep}
 use Rattle.engine_loop.specs.Engines.{until_of}
-use Rattle.engine_loop.specs.Turns.{AcceptsNext, AtWire, DialsSession, MakesTurn, accepted_after, at_wire, with_moment}
+use Rattle.engine_loop.specs.Turns.{AcceptsNext, AtWire, DialsSession, MakesTurn, accepted_after, at_wire}
 use Rattle.engine_loop.specs.declared.engine.Engine.{Engine}
 use Rattle.engine_loop.specs.declared.records.Turn.{Turn}
 use Rattle.gate_io.specs.Wire.{Accepts, Dials as TheWireDials, Door, Link}
@@ -12,7 +14,8 @@ use Rattle.gate_io.specs.declared.dials.Dialled.TheVariants as dial
 use Rattle.gate_io.specs.declared.wires.Accepted.{Accepted}
 use Rattle.gate_io.specs.declared.wires.Accepted.TheVariants as accept
 use Rattle.headline.proofs.Steady.{Steady, steady_kept}
-use Rattle.headline.proofs.Walk.{EngineKeeps, each_in_turn, turn_given, turn_taken, waits_by}
+use Rattle.headline.proofs.Walk.{EngineKeeps, quiet_door, quiet_step, waits_by}
+use Rattle.headline.proofs.Walking.{WalkLaws, each_in_turn, walked}
 use Rattle.lease_desk.specs.declared.desk.LeaseDesk.{LeaseDesk}
 use Rattle.library_desk.specs.Happening.{RunsFor}
 use Rattle.library_desk.specs.Serving.{Serves}
@@ -110,17 +113,17 @@ module _ (connections dials : ℕ) where
       subst (λ n. AreFew new.accepted n new.dialler door) (sym keeps.connections)
       (same_few old.connections old.accepted new.accepted old.dialler new.dialler door door keeps.accepted keeps.dials.made keeps.dials.most refl was)
 
-  module _ (serves : (library at until : ℕ) (old new : LibraryDesk) (turn : LibTurn) → Serves library at until old new turn → RunsFor at old.desk.board new.desk.board) where
+  module _ (walks : WalkLaws) (serves : (library at until : ℕ) (old new : LibraryDesk) (turn : LibTurn) → Serves library at until old new turn → RunsFor at old.desk.board new.desk.board) where
+    step : (old new : AtWire) → TurnStep old new → AreFewAt old → AreFewAt new
+    step _ _ (walk.accepted answer old new is) was = next_accepted answer old new is was
+    step _ _ (walk.dialled s old new is) was = session_dialled s old new is was
+    step _ _ (walk.quiet old new is) was =
+        subst (AreFew new.engine.accepted new.engine.connections new.engine.dialler) (sym (quiet_door old new is)) (kept_few old.door old.engine new.engine (quiet_step Steady steady_kept walks serves old new is) was)
+
     turn_few : (reading : ℕ) (old new : AtWire) (turn : Turn) → MakesTurn reading old new turn → AreFewAt old → AreFewAt new
     turn_few reading old new turn is was =
-        let takes = is.takes in
-        let begun = at_wire (with_moment reading old.engine) old.door old.links in
-        let accepted = next_accepted is.taken.accepted begun takes.accepted takes.accepts was in
-        let dialled = each_in_turn DialsSession (λ a b. AreFewAt a → AreFewAt b) (λ a i. i) (λ a b c one two i. two (one i)) session_dialled
-        (length takes.accepted.engine.sessions.desk.board.sessions) takes.accepted takes.dialled takes.dials accepted in
-        let middle = kept_few takes.dialled.door takes.dialled.engine is.middle.engine (turn_taken Steady steady_kept serves reading old is.middle is.taken takes) dialled in
-        let ended = kept_few takes.dialled.door is.middle.engine new.engine (turn_given Steady steady_kept is.middle new is.taken turn is.gives) middle in
-        subst (AreFew new.engine.accepted new.engine.connections new.engine.dialler) (sym (is.gives.door ∙ takes.door)) ended
+        walked TurnStep (λ a b. AreFewAt a → AreFewAt b) (λ a i. i) (λ a b c one two i. two (one i)) step _ new (walks.turn reading old new turn is)
+        (record { limit_is = was.limit_is; accepted_few = was.accepted_few; most = was.most; made = was.made; few = was.few })
 
     once_few : (old new : Drive) → DrivesOnce old new → AreFewAt old.at → AreFewAt new.at
     once_few old new is was =

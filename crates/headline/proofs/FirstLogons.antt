@@ -1,5 +1,6 @@
 -- Whatever happens in a run, the journal of a session that dials tells each of its connections from the Logon on.
-use Rattle.std.proofs.Common.{◌≡◌, ◌≢◌, ◌⊎◌, inl, inr, ℕ, zero, suc, ◌-◌, ◌<◌, false, List, [], ◌∷◌, ◌++◌, get_or, length, set, is_some, Option, None, Some, refl, sym, ap, subst, ◌∙◌, arith}
+use Rattle.std.proofs.Common.{◌≡◌, inl, inr, ℕ, ◌<◌, false, List, [], ◌∷◌, ◌++◌, get_or, length, set, is_some, Option, None, Some, sym, ap, subst, ◌∙◌}
+use Rattle.std.proofs.lemmas.Bool.{cases_eq as same_or_other}
 use Rattle.std.proofs.lemmas.List.{get_or-set_other, length-set}
 use Rattle.std.proofs.lemmas.List.Elements.{All-nil, All-weaker}
 use Rattle.std.proofs.lemmas.Option.{none-some}
@@ -8,8 +9,10 @@ use Rattle.std.specs.Prelude.{IsSome}
 use Rattle.connection_core.specs.Connection.{ConnectionState}
 use Rattle.connection_core.specs.Outgoing.{no_outgoing}
 use Rattle.engine_config.specs.declared.config.Config.{Config}
+use Rattle.engine_laws.specs.walks.Walks as walk
+use Rattle.engine_laws.specs.walks.Walks.{TurnStep}
 use Rattle.engine_loop.specs.Engines.{until_of}
-use Rattle.engine_loop.specs.Turns.{AcceptsNext, AtWire, DialsSession, MakesTurn, at_wire, with_moment}
+use Rattle.engine_loop.specs.Turns.{AcceptsNext, AtWire, DialsSession, MakesTurn}
 use Rattle.engine_loop.specs.declared.engine.Engine.{Engine}
 use Rattle.engine_loop.specs.declared.records.Turn.{Turn}
 use Rattle.gate_io.specs.declared.dials.Dialled.{Dialled}
@@ -17,7 +20,9 @@ use Rattle.gate_io.specs.declared.dials.Dialled.TheVariants as dial
 use Rattle.gate_io.specs.declared.wires.Accepted.{Accepted}
 use Rattle.gate_io.specs.declared.wires.Accepted.TheVariants as accept
 use Rattle.headline.proofs.FirstEntries.{LogonsFirst, dial_begins, end_kept, lapse_kept, message_kept, request_kept, shown_kept, tick_kept, timeout_kept}
-use Rattle.headline.proofs.Walk.{IsKept, each_in_turn, gathered, gathered_in_turn, turn_given, turn_taken}
+use Rattle.headline.proofs.Carrying.{each_step}
+use Rattle.headline.proofs.Walk.{IsKept, gathered, gathered_in_turn, quiet_step}
+use Rattle.headline.proofs.Walking.{WalkLaws, each_in_turn, walked}
 use Rattle.headline.specs.Dialled.{BeginsByLogon}
 use Rattle.headline.specs.LogonsFirst.{LogonsComeFirst, LogsOnFirst}
 use Rattle.lease_core.specs.Laws.{EntriesDecide, EntriesDecideOver}
@@ -36,11 +41,10 @@ use Rattle.message_log.specs.Growth.{GoesOn}
 use Rattle.message_log.specs.Series.{entry_at}
 use Rattle.message_log.specs.declared.entry.OutEntry.{OutEntry}
 use Rattle.engine_loop.specs.Starts.{StartsEngineOf}
-use Rattle.script_run.specs.Runs.{CallsBetween, Carries, CarriesAt, CarriesOut, ComesAtWire, Meets}
+use Rattle.script_run.specs.Runs.{CallsBetween, Carries, CarriesAt, CarriesOut, Meets}
 use Rattle.script_run.specs.declared.run.Run.{Run}
 use Rattle.script_text.specs.declared.steps.LibStep.{LibStep}
 use Rattle.script_text.specs.declared.steps.Step.{Step}
-use Rattle.script_text.specs.declared.steps.Step.TheVariants as step
 use Rattle.serve_run.specs.Drives.{Drive, DrivesFor, DrivesOn, DrivesOnce}
 use Rattle.session_book.specs.Acts.{after_dial, after_end, after_lapse, after_message, after_request, after_ticking}
 use Rattle.session_book.specs.Book.{Book, Desk, with_event, with_outbox}
@@ -62,18 +66,13 @@ use Rattle.wire_desk.specs.declared.dialling.Dialler.{Dialler}
 
 -- what the laws say of logs, journals and happenings
 pub record FirstLaws : Type 0 where
+  pub walks : WalkLaws
   pub entry : (earlier later : List (List OutEntry)) (series number : ℕ) → GoesOn earlier later → IsSome (entry_at earlier series number) → entry_at later series number ≡ entry_at earlier series number
   pub decide : EntriesDecide
   pub over : EntriesDecideOver
   pub dial : (c at : ℕ) (desk : Desk) → IsBook desk.book → CarriesOutActs (ask desk.book.machine).acts (with_outbox (with_event (Binds c) desk.book) desk.outgoing) (after_dial at c desk)
   pub goes : (happening : Happening) (old new : Board) → Happens happening old new → GoesOnTo old new
   pub serving : (library at until : ℕ) (old new : LibraryDesk) (turn : LibTurn) → Serves library at until old new turn → RunsFor at old.desk.board new.desk.board
-
-same_or_other : (i j : ℕ) → (i ≡ j) ⊎ (i ≢ j)
-same_or_other zero zero = inl refl
-same_or_other zero (suc j) = inr (λ e. absurd (omega arith))
-same_or_other (suc i) zero = inr (λ e. absurd (omega arith))
-same_or_other (suc i) (suc j) = elim (same_or_other i j) [ inl e ↦ inl (ap suc e) | inr n ↦ inr (λ e. n (omega arith)) ]
 
 -- the entry of an act alone
 record IsOneLogon (log : List (List OutEntry)) (series heart : ℕ) (added : List Entry) : Type 0 where
@@ -246,15 +245,13 @@ module _ (g : FirstLaws) where
   session_dialled s old new is =
       dialled_as is.answer s old.engine.moment (until_of old.engine) old.engine.sessions.desk new.engine.sessions.desk old.engine.dialler new.engine.dialler is.dials
 
+  step : (old new : AtWire) → TurnStep old new → GoesOnAt old new
+  step _ _ (walk.accepted answer old new is) = next_accepted answer old new is
+  step _ _ (walk.dialled s old new is) = session_dialled s old new is
+  step _ _ (walk.quiet old new is) = (quiet_step GoesOnFirst logons_kept g.walks g.serving old new is).board
+
   turn_made : (reading : ℕ) (old new : AtWire) (turn : Turn) → MakesTurn reading old new turn → GoesOnAt old new
-  turn_made reading old new turn is was =
-      let takes = is.takes in
-      let begun = at_wire (with_moment reading old.engine) old.door old.links in
-      let accepted = next_accepted is.taken.accepted begun takes.accepted takes.accepts was in
-      let dialled = each_in_turn DialsSession GoesOnAt (λ a i. i) (λ a b c one two i. two (one i)) session_dialled
-      (length takes.accepted.engine.sessions.desk.board.sessions) takes.accepted takes.dialled takes.dials accepted in
-      let middle = (turn_taken GoesOnFirst logons_kept g.serving reading old is.middle is.taken takes).board dialled in
-      (turn_given GoesOnFirst logons_kept is.middle new is.taken turn is.gives).board middle
+  turn_made reading old new turn is = walked TurnStep GoesOnAt (λ a i. i) (λ a b c one two i. two (one i)) step _ new (g.walks.turn reading old new turn is)
 
   -- the steps of a script
   abbrev GoesOnIn : Run → Run → Type 0
@@ -270,22 +267,8 @@ module _ (g : FirstLaws) where
   called_between what place old new is was =
       met place is.called new is.meets_again (same_board is.met is.called (ap (λ (run : Run). run.engine.sessions.desk.board) is.calls.rest) (met place old is.met is.meets was))
 
-  came : (what : Step) (old new : Run) → ComesAtWire what old new → GoesOnIn old new
-  came what old new is = same_board old new (ap (λ (run : Run). run.engine.sessions.desk.board) is.rest)
-
   carried : (what : Step) (old new : Run) → Carries what old new → GoesOnIn old new
-  carried (step.At moment) old new is = same_board old new (ap (λ (run : Run). run.engine.sessions.desk.board) is)
-  carried step.Turn old new is = turn_made old.clock.moment _ _ is.turn is.turns
-  carried (step.Lib library what) old new is = called_between what (library - 1) old new is
-  carried step.Connect old new is = came step.Connect old new is
-  carried step.Take old new is = came step.Take old new is
-  carried (step.Bytes c bytes) old new is = came (step.Bytes c bytes) old new is
-  carried (step.Frame c body) old new is = came (step.Frame c body) old new is
-  carried (step.Finish c) old new is = came (step.Finish c) old new is
-  carried (step.FailRead c) old new is = came (step.FailRead c) old new is
-  carried (step.FailWrite c after) old new is = came (step.FailWrite c after) old new is
-  carried (step.Block c after) old new is = came (step.Block c after) old new is
-  carried (step.Unblock c) old new is = came (step.Unblock c) old new is
+  carried = each_step GoesOnIn (λ old new is. same_board old new (ap (λ (e : Engine). e.sessions.desk.board) is.engine)) (λ old new is. turn_made old.clock.moment _ _ is.turn is.turns) called_between
 
   pub carried_out_first : (steps : List Step) (count : ℕ) (old new : Run) → CarriesOut steps count old new → GoesOnIn old new
   carried_out_first steps count old new is = each_in_turn (CarriesAt steps) GoesOnIn (λ run i. i) (λ a b c one two i. two (one i)) (λ i a b at. carried at.what a b at.carries) count old new is

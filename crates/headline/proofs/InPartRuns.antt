@@ -19,7 +19,8 @@ use Rattle.headline.proofs.Driven.{drove_in_order, first_in_order}
 use Rattle.headline.proofs.InPartKinds.{AreNumberedSo, SameKinds, kinds_kept, ordered, so_they_stay}
 use Rattle.headline.proofs.InPartStops.{turn_stopped}
 use Rattle.headline.proofs.InPartTold.{AreTheSessions, headline_in_part}
-use Rattle.headline.proofs.Walk.{IsKept, each_in_turn, gathered}
+use Rattle.headline.proofs.Walk.{IsKept, gathered}
+use Rattle.headline.proofs.Walking.{WalkLaws, each_in_turn}
 use Rattle.headline.specs.InPart.{HeadlineInPart}
 use Rattle.headline.specs.Numbering.{IsInOrder}
 use Rattle.lease_core.specs.declared.entry.Entry.{Entry}
@@ -58,6 +59,7 @@ use Rattle.switchboard.specs.Stops.{HaveSameSessions}
 
 -- what the laws say of accounts, and of runs that are carried out and served
 pub record PartLaws (before : ℕ → List Entry) (start : ℕ → State) : Type 0 where
+  pub walks : WalkLaws
   pub itself : (at : ℕ) (board : Board) → StaysAccountedFor at board board
   pub further : (at : ℕ) (first second third : Board) → StaysAccountedFor at first second → StaysAccountedFor at second third → StaysAccountedFor at first third
   pub gathers : (s at until : ℕ) (old new : LeaseDesk) → Gathers s at until old new → StaysAccountedFor at old.board new.board
@@ -135,7 +137,7 @@ module _ (config : Config) (g : PartLaws no_entries (first_machines config)) whe
       let same = g.sessions reading old new stops in
       record {
         sessions = sessions_stay config old.engine.sessions.desk.board new.sessions.desk.board same.count (λ s. (same.same s).names) same.leases was.sessions;
-        numbers = turn_stopped g.serving reading old new stops order;
+        numbers = turn_stopped g.walks g.serving reading old new stops order;
         account = g.turn reading old new stops was.ready was.account;
         whole = λ stands. absurd (let clash : true ≡ false = sym stops.failed ∙ stands in cc);
       }
@@ -212,7 +214,7 @@ module _ (config : Config) (g : PartLaws no_entries (first_machines config)) whe
     behind : (count : ℕ) (run : Run) → CarriesOut steps count first run → RunStands run
     behind count run carries =
         let goes = g.run_goes_on steps count first run carries in
-        let order = carried_out g.serving steps count first run carries (first_numbered config moment shared first starts) in
+        let order = carried_out g.walks g.serving steps count first run carries (first_numbered config moment shared first starts) in
         let board = run.engine.sessions.desk.board in
         record {
           whole = whole_at run.engine (sessions_go_on config first.engine.sessions.desk.board board goes.engine.board (first_sessions config moment shared first.engine starts.engine))
@@ -295,7 +297,7 @@ module _ (config : Config) (g : PartLaws no_entries (first_machines config)) whe
 
     so_far : (connections libraries count : ℕ) (new : Drive) → DrivesFor connections libraries count begin new → AtWireInOrder new.at × StandsWhole new.at.engine.moment new.at.engine.sessions.desk.board
     so_far connections libraries count new drives =
-        let ordered_so = drove_in_order g.serving connections libraries count begin new drives order in
+        let ordered_so = drove_in_order g.walks g.serving connections libraries count begin new drives order in
         let goes = g.drive_goes_on connections libraries count begin new drives in
         let board = new.at.engine.sessions.desk.board in (
           ordered_so,

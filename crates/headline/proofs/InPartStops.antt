@@ -10,7 +10,8 @@ use Rattle.gate_io.specs.Wire.{Link}
 use Rattle.gate_io.specs.declared.wires.TheConstants.{FIRST_DIALLED}
 use Rattle.headline.proofs.Coming.{AtWireInOrder, all_dialled, half_taken, next_accepted}
 use Rattle.headline.proofs.InPartKinds.{AreNumberedSo, HaveNumbers, SameKinds, bound, kind_of, kinds_kept, numbers_stay, one_more, ordered, received, so_they_stay, ticked, untold}
-use Rattle.headline.proofs.Walk.{IsQuiet, all_published, all_read, all_served, all_ticked, bound_by, each_in_turn, gathered, lapsing_quiet, next_handled, one_quiet, reached, read_as, written_in_turn}
+use Rattle.headline.proofs.Walk.{IsQuiet, all_published, all_read, all_served, all_ticked, bound_by, gathered, lapsing_quiet, one_quiet, reached, reads_walked, writes_walked}
+use Rattle.headline.proofs.Walking.{WalkLaws, each_in_turn}
 use Rattle.lease_core.specs.State.{state_of}
 use Rattle.lease_desk.specs.Desk.{InTurn, TakesBackFrom, bodies_of}
 use Rattle.lease_desk.specs.declared.desk.LeaseDesk.{LeaseDesk}
@@ -28,7 +29,7 @@ use Rattle.switchboard.specs.Board.{Board, book_at, connection_at}
 use Rattle.switchboard.specs.Happenings.{Reaches, binds, dials, gives, requests, reserves, takes, ticks, times_out}
 use Rattle.switchboard.specs.Stops.{NothingIsTold, StopsIn}
 use Rattle.wire_desk.specs.Places.{open_places}
-use Rattle.wire_desk.specs.Steps.{HandlesNext, Sessions, sessions_of, written_so_far}
+use Rattle.wire_desk.specs.Steps.{Sessions, sessions_of, written_so_far}
 use Rattle.wire_desk.specs.Stops.{StopsCalling, StopsInBody, StopsInPiece, StopsInPieces, StopsReading}
 
 abbrev SameDesk : LeaseDesk → LeaseDesk → Type 0
@@ -79,17 +80,16 @@ in_piece k at until old new stops = elim stops [
   | inr is ↦ in_body (connection_at old.board k).session k is.body at until is.given new is.stops ∙ kinds_kept.happens (gives k) old.board is.given.board refl is.gives
 ]
 
-in_pieces : (routes : Routes) (k at until : ℕ) (old : Sessions) (new : LeaseDesk) → StopsInPieces routes k at until old new → SameDesk old.desk new
-in_pieces routes k at until old new is =
-    in_piece k at until is.between.desk new is.stops
-    ∙ each_in_turn (λ i. HandlesNext routes k at until) (λ (a b : Sessions). SameDesk a.desk b.desk) (λ a. refl) (λ a b c one two. two ∙ one) (λ i a b. next_handled SameKinds kinds_kept routes k at until a b) is.count old is.between is.handles
+in_pieces : WalkLaws → (routes : Routes) (k at until : ℕ) (old : Sessions) (new : LeaseDesk) → StopsInPieces routes k at until old new → SameDesk old.desk new
+in_pieces walks routes k at until old new is =
+    in_piece k at until is.between.desk new is.stops ∙ reads_walked SameKinds kinds_kept routes k at until _ _ (walks.handles routes k at until is.count old is.between is.handles)
 
-reading : (routes : Routes) (k at until : ℕ) (old : Sessions) (new : LeaseDesk) → StopsReading routes k at until old new → SameDesk old.desk new
-reading routes k at until old new stops = elim stops [
+reading : WalkLaws → (routes : Routes) (k at until : ℕ) (old : Sessions) (new : LeaseDesk) → StopsReading routes k at until old new → SameDesk old.desk new
+reading walks routes k at until old new stops = elim stops [
   | inl nothing ↦ untold old.desk.board new.board nothing
   | inr more ↦ elim more [
-    | inl is ↦ in_pieces routes k at until (sessions_of is.taken old.unkept) new is.stops ∙ kinds_kept.happens (takes k is.bytes) old.desk.board is.taken.board refl is.takes
-    | inr is ↦ untold is.between.desk.board new.board is.stops ∙ read_as SameKinds kinds_kept is.got routes k is.buffer at until old is.between is.reads
+    | inl is ↦ in_pieces walks routes k at until (sessions_of is.taken old.unkept) new is.stops ∙ kinds_kept.happens (takes k is.bytes) old.desk.board is.taken.board refl is.takes
+    | inr is ↦ untold is.between.desk.board new.board is.stops ∙ reads_walked SameKinds kinds_kept routes k at until _ _ (walks.reads_as is.got routes k is.buffer at until old is.between is.reads)
   ]
 ]
 
@@ -172,7 +172,7 @@ SameEngine old new = SameDesk old.sessions.desk new.sessions.desk
 nothing_told : (old new : Engine) → TellsNothing old new → SameEngine old new
 nothing_told old new nothing = untold old.sessions.desk.board new.sessions.desk.board nothing
 
-module _ (serves : (library at until : ℕ) (old new : LibraryDesk) (turn : LibTurn) → Serves library at until old new turn → RunsFor at old.desk.board new.desk.board) where
+module _ (walks : WalkLaws) (serves : (library at until : ℕ) (old new : LibraryDesk) (turn : LibTurn) → Serves library at until old new turn → RunsFor at old.desk.board new.desk.board) where
   serving_all : (old new : Engine) → StopsServingAll old new → SameEngine old new
   serving_all old new is =
       let between = is.between.engine in
@@ -180,19 +180,19 @@ module _ (serves : (library at until : ℕ) (old new : LibraryDesk) (turn : LibT
         | inl nothing ↦ nothing_told between new nothing
         | inr stops ↦ serving (is.count + 1) between.moment (until_of between) between.sessions new.sessions stops
       ] in
-      last ∙ (all_served SameKinds kinds_kept serves is.count (serving_of old []) is.between is.serves).board
+      last ∙ (all_served SameKinds kinds_kept walks serves is.count (serving_of old []) is.between is.serves).board
 
   behind_ticks : (old new : Engine) → StopsBehindTicks old new → SameEngine old new
   behind_ticks old new stops = elim stops [
     | inl all ↦ serving_all old new all
     | inr behind ↦ nothing_told behind.0 new behind.1.1.stops
-        ∙ (all_served SameKinds kinds_kept serves (length old.sessions.ends.items) (serving_of old []) (serving_of behind.0 behind.1.0) behind.1.1.serves).board
+        ∙ (all_served SameKinds kinds_kept walks serves (length old.sessions.ends.items) (serving_of old []) (serving_of behind.0 behind.1.0) behind.1.1.serves).board
   ]
 
   behind_reads : (old new : Engine) → StopsBehindReads old new → SameEngine old new
   behind_reads old new stops = elim stops [
-    | inl is ↦ ticking is.count is.between.moment (until_of is.between) is.between.sessions.desk new.sessions.desk is.stops ∙ (all_ticked SameKinds kinds_kept is.count old is.between is.ticks).board
-    | inr is ↦ behind_ticks is.ticked new is.stops ∙ (all_ticked SameKinds kinds_kept (length old.sessions.desk.board.sessions) old is.ticked is.ticks).board
+    | inl is ↦ ticking is.count is.between.moment (until_of is.between) is.between.sessions.desk new.sessions.desk is.stops ∙ (all_ticked SameKinds kinds_kept walks is.count old is.between is.ticks).board
+    | inr is ↦ behind_ticks is.ticked new is.stops ∙ (all_ticked SameKinds kinds_kept walks (length old.sessions.desk.board.sessions) old is.ticked is.ticks).board
   ]
 
   reading_all : (old : Engine) (links : ℕ → Link) (new : Engine) → StopsReadingAll old links new → SameEngine old new
@@ -200,16 +200,16 @@ module _ (serves : (library at until : ℕ) (old new : LibraryDesk) (turn : LibT
       let between = is.between.engine in
       let last : SameEngine between new = elim is.stops [
         | inl nothing ↦ nothing_told between new nothing
-        | inr stops ↦ reading between.lines.routes _ between.moment (until_of between) (sessions_of between.sessions.desk between.lines.unkept.items) new.sessions.desk stops
+        | inr stops ↦ reading walks between.lines.routes _ between.moment (until_of between) (sessions_of between.sessions.desk between.lines.unkept.items) new.sessions.desk stops
       ] in
-      last ∙ (all_read SameKinds kinds_kept (open_places old.lines) is.count (reading_of old links []) is.between is.reads).board
+      last ∙ (all_read SameKinds kinds_kept walks (open_places old.lines) is.count (reading_of old links []) is.between is.reads).board
 
   behind_dials : (old : AtWire) (new : Engine) → StopsBehindDials old new → SameEngine old.engine new
   behind_dials old new stops = elim stops [
     | inl is ↦ reading_all old.engine old.links new is
     | inr is ↦ (
         let places = open_places old.engine.lines in
-        behind_reads is.read new is.stops ∙ (all_read SameKinds kinds_kept places (length places) (reading_of old.engine old.links []) (reading_of is.read is.links_read is.got) is.reads).board)
+        behind_reads is.read new is.stops ∙ (all_read SameKinds kinds_kept walks places (length places) (reading_of old.engine old.links []) (reading_of is.read is.links_read is.got) is.reads).board)
   ]
 
   -- the connections of an engine over its wire
@@ -241,15 +241,15 @@ module _ (serves : (library at until : ℕ) (old new : LibraryDesk) (turn : LibT
   giving old new is =
       let stops = is.stops in
       let first = written_so_far is.published.sessions.desk is.published.lines.unkept.items old.links 0 in
-      untold stops.between.sessions.desk.board new.sessions.desk.board stops.stops ∙ written_in_turn SameKinds kinds_kept (open_places is.published.lines) stops.count first stops.between stops.writes
-      ∙ (all_published SameKinds kinds_kept (length old.engine.sessions.desk.board.sessions) old.engine is.published is.publishes).board
+      untold stops.between.sessions.desk.board new.sessions.desk.board stops.stops ∙ writes_walked SameKinds kinds_kept _ _ (walks.writes (open_places is.published.lines) stops.count first stops.between stops.writes)
+      ∙ (all_published SameKinds kinds_kept walks (length old.engine.sessions.desk.board.sessions) old.engine is.published is.publishes).board
 
   pub turn_stopped : (reading : ℕ) (old : AtWire) (new : Engine) → StopsTurn reading old new → AtWireInOrder old → AreNumberedSo new.sessions.desk.board
   turn_stopped reading old new is was = elim is.stops [
     | inl stops ↦ taking reading old new stops was
     | inr behind ↦ (
-        let middle = half_taken serves reading old behind.middle behind.taken behind.takes was in
-        let door = behind.takes.dialled.door in
+        let middle = half_taken walks serves reading old behind.middle behind.taken behind.takes was in
+        let door = behind.middle.door in
         so_they_stay behind.middle.engine.sessions.desk.board new.sessions.desk.board (giving behind.middle new behind.stops)
         (ordered door.accepted door.dialled behind.middle.engine.sessions.desk.board middle.connections))
   ]

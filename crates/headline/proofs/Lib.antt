@@ -3,6 +3,9 @@ mod serving_lemmas
 mod clock_lemmas
 mod Lists
 mod Causes
+mod Walking
+mod Carrying
+mod AccountLaws
 mod Walk
 mod Steady
 mod Coming

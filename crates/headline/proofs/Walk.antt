@@ -1,20 +1,18 @@
 -- What each happening keeps by which no connection comes, each step of a turn keeps but for those by which one does.
-use Rattle.std.proofs.Common.{◌≡◌, inl, inr, ℕ, zero, suc, ◌+◌, Bool, true, false, List, [], ◌∷◌, ◌++◌, length, Option, None, Some, Result, Ok, Err, refl, sym, ap, subst, ◌∙◌}
+use Rattle.std.proofs.Common.{◌≡◌, inl, inr, ℕ, ◌+◌, Bool, true, false, List, [], ◌∷◌, ◌++◌, length, Option, None, Some, Result, Ok, Err, refl, sym, ap, subst, ◌∙◌}
 use Rattle.std.proofs.lemmas.List.Elements.{All-append, All-cons, All-head, All-nil, All-tail, All-weaker}
 use Rattle.std.specs.Prelude.{if◌then◌else◌, nat_lt, slice_index_or}
 use Rattle.std.specs.List.{All}
 use Rattle.std.specs.Result.{result_ok}
 use Rattle.engine_config.specs.declared.config.DialTo.{DialTo}
+use Rattle.engine_laws.specs.walks.Walks as walk
+use Rattle.engine_laws.specs.walks.Walks.{QuietStep, ReadMove, ReadSoFar, Walk, WriteMove}
 use Rattle.engine_loop.specs.Engines.{until_of}
-use Rattle.engine_loop.specs.Turns.{GivesTurn, NotesSession, PublishesSession, Reading, ReadsIfStands, ServesOne, Serving, TakesTurn, TicksSession, WritesAll, AtWire, reading_of, serving_of}
+use Rattle.engine_loop.specs.Turns.{AtWire, NotesSession, PublishesSession, Reading, ReadsIfStands, ServesOne, Serving, TicksSession, WritesAll}
 use Rattle.engine_loop.specs.declared.engine.Engine.{Engine}
-use Rattle.engine_loop.specs.declared.records.Taken.{Taken}
-use Rattle.engine_loop.specs.declared.records.Turn.{Turn}
 use Rattle.fix_fields.specs.Reading.{fields_of}
-use Rattle.fix_frame.specs.Cut.{CutPiece, garbled, good}
 use Rattle.gate_io.specs.Wire.{Link}
-use Rattle.gate_io.specs.declared.wires.WireGot.{WireGot}
-use Rattle.gate_io.specs.declared.wires.WireGot.TheVariants as got
+use Rattle.headline.proofs.Walking.{WalkLaws, each_in_turn, walked}
 use Rattle.lease_core.specs.State.{state_of}
 use Rattle.lease_desk.specs.Desk.{Gathers, InTurn, bodies_of}
 use Rattle.lease_desk.specs.declared.desk.LeaseDesk.{LeaseDesk}
@@ -24,7 +22,6 @@ use Rattle.library_desk.specs.declared.desk.LibraryDesk.{LibraryDesk}
 use Rattle.library_desk.specs.declared.serving.LibTurn.{LibTurn}
 use Rattle.session_book.specs.Records.{Pending}
 use Rattle.session_core.specs.declared.causes.Cause.{Cause}
-use Rattle.session_core.specs.declared.causes.Cause.TheVariants.{End, ReadFault, Silent}
 use Rattle.session_desk.specs.Steps.{GreetsAs, Hears, Ticks, answering, binding, ending, greeting, is_answer, lapsing, parting}
 use Rattle.session_desk.specs.declared.routes.Routes.{Routes}
 use Rattle.switchboard.specs.Board.{Board, book_at, connection_at, place_at}
@@ -32,15 +29,8 @@ use Rattle.switchboard.specs.Going.{is_coming}
 use Rattle.switchboard.specs.Happenings.{Happening, Happens, Reaches, answers, binds, binds_and_ends, ends_bound, ends_unbound, gives, lapses, prepares, receives, requests, reserves, shows, takes, ticks, times_out, writes}
 use Rattle.wire_desk.specs.Dials.{SessionWaits, WaitsBy, WaitsIfEnded, plan_at}
 use Rattle.wire_desk.specs.Places.{open_places}
-use Rattle.wire_desk.specs.Steps.{Handles, HandlesAll, HandlesBody, HandlesNext, LeavesIfTardy, PartsBy, PartsIfNeeded, PreparesTo, Reads, ReadsAs, Sessions, StopsAt, WritesAt, WritesInTurn, WritesSome, WrittenSoFar, cause_behind, sessions_of, written_so_far}
+use Rattle.wire_desk.specs.Steps.{written_so_far}
 use Rattle.wire_desk.specs.declared.dialling.Dialler.{Dialler}
-
--- steps of one kind, one after another, of something
-pub each_in_turn : {T : Type 0} (Step : ℕ → T → T → Type 0) (Keeps : T → T → Type 0) → ((t : T) → Keeps t t) → ((a b c : T) → Keeps a b → Keeps b c → Keeps a c) → ((i : ℕ) (a b : T) → Step i a b → Keeps a b)
-    → (n : ℕ) (old new : T) → InTurn Step n old new → Keeps old new
-each_in_turn Step Keeps itself further each zero old new same = subst (λ t. Keeps old t) (sym same) (itself old)
-each_in_turn Step Keeps itself further each (suc n) old new steps =
-    further old steps.0 new (each_in_turn Step Keeps itself further each n old steps.0 steps.1) (each n steps.0 new steps.2)
 
 -- no connection comes
 abbrev pub IsQuiet : Happening → Type 0
@@ -110,6 +100,15 @@ waits_in_turn : (board : Board) (places : List ℕ) (at count : ℕ) (old new : 
 waits_in_turn board places at count old new waits =
     each_in_turn (λ i. WaitsIfEnded board at (slice_index_or places i 0)) HasSameDials (λ d. same_dials d d refl) further_dials (λ i a b. waits_if_ended board at (slice_index_or places i 0) a b) count old new waits
 
+-- nor at the wire
+pub quiet_door : (old new : AtWire) → QuietStep old new → new.door ≡ old.door
+quiet_door _ _ (walk.read k door old new is) = refl
+quiet_door _ _ (walk.ticked s door links old new is) = refl
+quiet_door _ _ (walk.served i door links old new is) = refl
+quiet_door _ _ (walk.noted s door links old new is) = refl
+quiet_door _ _ (walk.published s door links old new is) = refl
+quiet_door _ _ (walk.written door links_old links_new old new bytes is) = refl
+
 -- A relation of boards, one behind another, that each happening keeps by which no connection comes.
 pub record IsKept (R : Board → Board → Type 0) : Type 0 where
   pub itself : (board : Board) → R board board
@@ -159,86 +158,30 @@ module _ (R : Board → Board → Type 0) (g : IsKept R) where
   parted : (session : Option ℕ) (k : ℕ) (cause : Cause) (old new : Board) → Happens (parting session k cause) old new → R old new
   parted session k cause old new is = g.happens (parting session k cause) old new (parting_quiet session k cause) is
 
-  abbrev KeptOf : Sessions → Sessions → Type 0
-  KeptOf old new = R old.desk.board new.desk.board
+  -- a move as a connection is read, and as connections are written to
+  read_moved : (routes : Routes) (k at until : ℕ) (old new : ReadSoFar) → ReadMove routes k at until old new → R old.desk.board new.desk.board
+  read_moved routes k at until _ _ (walk.bytes_come bytes old new is) = g.happens (takes k bytes) old.board new.board refl is.0
+  read_moved routes k at until _ _ (walk.garbled_out size old new next is) = g.happens (gives k) old.board new.board refl is.0
+  read_moved routes k at until _ _ (walk.body_out body old new next is) = g.happens (gives k) old.board new.board refl is.0
+  read_moved routes k at until _ _ (walk.heard s body end old new named is) = heard s k body at until old.desk new.desk old.unkept new.unkept end is
+  read_moved routes k at until _ _ (walk.greeted body end old new unnamed is) =
+      greeted (greeting old.desk.board routes (result_ok (fields_of body))) k body at until old.desk new.desk old.unkept new.unkept end is
+  read_moved routes k at until _ _ (walk.none_out old new none is) = g.happens (gives k) old.board new.board refl is.0
+  read_moved routes k at until _ _ (walk.had_ended desk ended) = g.itself desk.board
+  read_moved routes k at until _ _ (walk.parted cause old new ends is) = parted (connection_at old.board k).session k cause old.board new.board is.0
 
-  same_of : (old new : Sessions) → new ≡ old → KeptOf old new
-  same_of old new same = unchanged old.desk.board new.desk.board (ap (λ (sessions : Sessions). sessions.desk.board) same)
+  pub reads_walked : (routes : Routes) (k at until : ℕ) (old new : ReadSoFar) → Walk (ReadMove routes k at until) old new → R old.desk.board new.desk.board
+  reads_walked routes k at until =
+      walked (ReadMove routes k at until) (λ a b. R a.desk.board b.desk.board) (λ a. g.itself a.desk.board) (λ a b c. g.further a.desk.board b.desk.board c.desk.board) (read_moved routes k at until)
 
-  body_handled : (session : Option ℕ) (routes : Routes) (k : ℕ) (body : List ℕ) (at until : ℕ) (old new : Sessions) → HandlesBody session routes k body at until old new → KeptOf old new
-  body_handled (Some s) routes k body at until old new is = heard s k body at until old.desk new.desk old.unkept new.unkept is.0 is.1
-  body_handled None routes k body at until old new is =
-      greeted (greeting old.desk.board routes (result_ok (fields_of body))) k body at until old.desk new.desk old.unkept new.unkept is.0 is.1
+  write_moved : (old new : LeaseDesk) → WriteMove old new → R old.board new.board
+  write_moved _ _ (walk.made s k old new is) = g.happens (prepares s k) old.board new.board refl is.0
+  write_moved _ _ (walk.wrote k n old new is) = g.happens (writes k n) old.board new.board refl is.0
+  write_moved _ _ (walk.left k stop cause old new ends is) = parted (connection_at old.board k).session k cause old.board new.board is.0
+  write_moved _ _ (walk.stayed old new board seat) = unchanged old.board new.board board
 
-  piece_handled : (piece : CutPiece) (routes : Routes) (k at until : ℕ) (old new : Sessions) → Handles piece routes k at until old new → KeptOf old new
-  piece_handled (garbled size) routes k at until old new same = same_of old new same
-  piece_handled (good body) routes k at until old new handles = body_handled (connection_at old.desk.board k).session routes k body at until old new handles
-
-  pub next_handled : (routes : Routes) (k at until : ℕ) (old new : Sessions) → HandlesNext routes k at until old new → KeptOf old new
-  next_handled routes k at until old new is =
-      g.further old.desk.board is.given.board new.desk.board (g.happens (gives k) old.desk.board is.given.board refl is.gives)
-      (piece_handled is.piece routes k at until (sessions_of is.given old.unkept) new is.handles)
-
-  stopped : (k : ℕ) (old new : Sessions) → StopsAt k old new → KeptOf old new
-  stopped k old new stops = elim stops [
-    | inl ended ↦ same_of old new ended.1
-    | inr finds ↦ g.happens (gives k) old.desk.board new.desk.board refl finds.gives
-  ]
-
-  all_handled : (routes : Routes) (k at until : ℕ) (old new : Sessions) → HandlesAll routes k at until old new → KeptOf old new
-  all_handled routes k at until old new is =
-      g.further old.desk.board is.between.desk.board new.desk.board
-      (each_in_turn (λ i. HandlesNext routes k at until) KeptOf (λ sessions. g.itself sessions.desk.board) (λ a b c. g.further a.desk.board b.desk.board c.desk.board)
-      (λ i a b. next_handled routes k at until a b) is.count old is.between is.handles)
-      (stopped k is.between new is.stops)
-
-  parted_by : (k : ℕ) (cause : Cause) (old new : Sessions) → PartsBy k cause old new → KeptOf old new
-  parted_by k cause old new is = parted (connection_at old.desk.board k).session k cause old.desk.board new.desk.board is.parts
-
-  pub read_as : (answer : WireGot) (routes : Routes) (k : ℕ) (buffer : List ℕ) (at until : ℕ) (old new : Sessions) → ReadsAs answer routes k buffer at until old new → KeptOf old new
-  read_as (got.Bytes n) routes k buffer at until old new is =
-      g.further old.desk.board is.taken.board new.desk.board (g.happens (takes k _) old.desk.board is.taken.board refl is.takes) (all_handled routes k at until (sessions_of is.taken old.unkept) new is.handles)
-  read_as got.End routes k buffer at until old new is = parted_by k End old new is
-  read_as got.Failed routes k buffer at until old new is = parted_by k ReadFault old new is
-  read_as got.Blocked routes k buffer at until old new is = same_of old new is
-
-  tardy_left : (k at : ℕ) (old new : Sessions) → LeavesIfTardy k at old new → KeptOf old new
-  tardy_left k at old new leaves = elim leaves [
-    | inl tardy ↦ parted_by k (Silent (connection_at old.desk.board k).since) old new tardy.1
-    | inr same ↦ same_of old new same.1
-  ]
-
-  read : (answer : WireGot) (routes : Routes) (k : ℕ) (buffer : List ℕ) (at until : ℕ) (old new : Sessions) → Reads answer routes k buffer at until old new → KeptOf old new
-  read answer routes k buffer at until old new is =
-      g.further old.desk.board is.between.desk.board new.desk.board (read_as answer routes k buffer at until old is.between is.reads) (tardy_left k at is.between new is.tardy)
-
-  prepared_to : (session : Option ℕ) (k : ℕ) (old new : Board) → PreparesTo session k old new → R old new
-  prepared_to None k old new same = unchanged old new same
-  prepared_to (Some s) k old new is = g.happens (prepares s k) old new refl is.0
-
-  written_some : (k n : ℕ) (old new : Board) → WritesSome k n old new → R old new
-  written_some k n old new writes_some = elim writes_some [
-    | inl none ↦ unchanged old new none.1
-    | inr some ↦ g.happens (writes k n) old new refl some
-  ]
-
-  parted_if_needed : (cause : Option Cause) (k : ℕ) (old new : Board) → PartsIfNeeded cause k old new → R old new
-  parted_if_needed None k old new same = unchanged old new same
-  parted_if_needed (Some cause) k old new parts = parted (connection_at old k).session k cause old new parts
-
-  written_at : (k : ℕ) (old new : WrittenSoFar) → WritesAt k old new → KeptOf old.sessions new.sessions
-  written_at k old new is =
-      let one = is.writes in
-      let board = old.sessions.desk.board in
-      let last = new.sessions.desk.board in
-      g.further board one.prepared last (prepared_to (connection_at board k).session k board one.prepared one.prepares)
-      (g.further one.prepared one.wrote.board last (written_some k is.written.bytes one.prepared one.wrote.board one.writes)
-      (parted_if_needed (cause_behind is.written.stop (connection_at one.wrote.board k)) k one.wrote.board last one.ends))
-
-  pub written_in_turn : (places : List ℕ) (count : ℕ) (old new : WrittenSoFar) → WritesInTurn places count old new → KeptOf old.sessions new.sessions
-  written_in_turn places count old new steps =
-      each_in_turn (λ i. WritesAt (slice_index_or places i 0)) (λ a b. KeptOf a.sessions b.sessions) (λ so_far. g.itself so_far.sessions.desk.board)
-      (λ a b c. g.further a.sessions.desk.board b.sessions.desk.board c.sessions.desk.board) (λ i a b. written_at (slice_index_or places i 0) a b) count old new steps
+  pub writes_walked : (old new : LeaseDesk) → Walk WriteMove old new → R old.board new.board
+  writes_walked = walked WriteMove (λ a b. R a.board b.board) (λ a. g.itself a.board) (λ a b c. g.further a.board b.board c.board) write_moved
 
   -- each session is gathered, one after another
   pub gathered_in_turn : (count at until : ℕ) (old new : LeaseDesk) → InTurn (λ s. Gathers s at until) count old new → R old.board new.board
@@ -270,77 +213,67 @@ module _ (R : Board → Board → Type 0) (g : IsKept R) where
   engine_in_turn : (Step : ℕ → Engine → Engine → Type 0) (count : ℕ) (old new : Engine) → ((i : ℕ) (a b : Engine) → Step i a b → EngineKeeps a b) → InTurn Step count old new → EngineKeeps old new
   engine_in_turn Step count old new each steps = each_in_turn Step EngineKeeps engine_itself engine_further each count old new steps
 
-  one_read : (k : ℕ) (old new : Reading) → ReadsIfStands k old new → EngineKeeps old.engine new.engine
-  one_read k old new is = elim is [
-    | inl reads ↦ engine_kept old.engine new.engine (read reads.answer _ k _ old.engine.moment (until_of old.engine) _ _ reads.reads)
-        (ap (λ (e : Engine). e.accepted) reads.rest) (ap (λ (e : Engine). e.connections) reads.rest) (ap (λ (e : Engine). e.dialler) reads.rest)
-    | inr none ↦ subst (λ (r : Reading). EngineKeeps old.engine r.engine) (sym none.1) (engine_itself old.engine)
-  ]
+  module _ (walks : WalkLaws) where
+    one_read : (k : ℕ) (old new : Reading) → ReadsIfStands k old new → EngineKeeps old.engine new.engine
+    one_read k old new is = elim is [
+      | inl reads ↦ engine_kept old.engine new.engine (reads_walked _ k old.engine.moment (until_of old.engine) _ _ (walks.reads reads.answer _ k _ old.engine.moment (until_of old.engine) _ _ reads.reads))
+          (ap (λ (e : Engine). e.accepted) reads.rest) (ap (λ (e : Engine). e.connections) reads.rest) (ap (λ (e : Engine). e.dialler) reads.rest)
+      | inr none ↦ subst (λ (r : Reading). EngineKeeps old.engine r.engine) (sym none.1) (engine_itself old.engine)
+    ]
 
-  pub all_read : (places : List ℕ) (count : ℕ) (old new : Reading) → InTurn (λ i. ReadsIfStands (slice_index_or places i 0)) count old new → EngineKeeps old.engine new.engine
-  all_read places count old new reads =
-      each_in_turn (λ i. ReadsIfStands (slice_index_or places i 0)) (λ (a b : Reading). EngineKeeps a.engine b.engine) (λ a. engine_itself a.engine)
-      (λ a b c. engine_further a.engine b.engine c.engine) (λ i a b. one_read (slice_index_or places i 0) a b) count old new reads
+    pub all_read : (places : List ℕ) (count : ℕ) (old new : Reading) → InTurn (λ i. ReadsIfStands (slice_index_or places i 0)) count old new → EngineKeeps old.engine new.engine
+    all_read places count old new reads =
+        each_in_turn (λ i. ReadsIfStands (slice_index_or places i 0)) (λ (a b : Reading). EngineKeeps a.engine b.engine) (λ a. engine_itself a.engine)
+        (λ a b c. engine_further a.engine b.engine c.engine) (λ i a b. one_read (slice_index_or places i 0) a b) count old new reads
 
-  session_ticked : (s : ℕ) (old new : Engine) → TicksSession s old new → EngineKeeps old new
-  session_ticked s old new is =
-      engine_kept old new (ticked s old.moment (until_of old) old.sessions.desk new.sessions.desk is.end is.ticks)
-      (ap (λ (e : Engine). e.accepted) is.rest) (ap (λ (e : Engine). e.connections) is.rest) (ap (λ (e : Engine). e.dialler) is.rest)
-
-  pub all_ticked : (count : ℕ) (old new : Engine) → InTurn TicksSession count old new → EngineKeeps old new
-  all_ticked count old new ticks_are = engine_in_turn TicksSession count old new session_ticked ticks_are
-
-  session_noted : (s : ℕ) (old new : Engine) → NotesSession s old new → EngineKeeps old new
-  session_noted s old new is =
-      engine_kept old new (unchanged old.sessions.desk.board new.sessions.desk.board (ap (λ (e : Engine). e.sessions.desk.board) is.1))
-      (ap (λ (e : Engine). e.accepted) is.1) (ap (λ (e : Engine). e.connections) is.1) (ap (λ (e : Engine). e.dialler) is.1)
-
-  pub all_noted : (count : ℕ) (old new : Engine) → InTurn NotesSession count old new → EngineKeeps old new
-  all_noted count old new notes = engine_in_turn NotesSession count old new session_noted notes
-
-  session_published : (s : ℕ) (old new : Engine) → PublishesSession s old new → EngineKeeps old new
-  session_published s old new is =
-      engine_kept old new (unchanged old.sessions.desk.board new.sessions.desk.board is.board)
-      (ap (λ (e : Engine). e.accepted) is.rest) (ap (λ (e : Engine). e.connections) is.rest) (ap (λ (e : Engine). e.dialler) is.rest)
-
-  pub all_published : (count : ℕ) (old new : Engine) → InTurn PublishesSession count old new → EngineKeeps old new
-  all_published count old new publishes = engine_in_turn PublishesSession count old new session_published publishes
-
-  all_written : (links_old links_new : ℕ → Link) (old new : Engine) (bytes : ℕ) → WritesAll links_old links_new old new bytes → EngineKeeps old new
-  all_written links_old links_new old new bytes is =
-      let places = open_places old.lines in
-      record {
-        board = written_in_turn places (length places) (written_so_far old.sessions.desk old.lines.unkept.items links_old 0) (written_so_far new.sessions.desk old.lines.unkept.items links_new bytes) is.writes;
-        accepted = ap (λ (e : Engine). e.accepted) is.rest;
-        connections = ap (λ (e : Engine). e.connections) is.rest;
-        dials = waits_in_turn new.sessions.desk.board old.lines.dialled.items old.moment (length old.lines.dialled.items) old.dialler new.dialler is.waits;
-      }
-
-  pub turn_given : (old new : AtWire) (taken : Taken) (turn : Turn) → GivesTurn old new taken turn → EngineKeeps old.engine new.engine
-  turn_given old new taken turn is =
-      let all = is.gives in
-      engine_further old.engine all.published new.engine (all_published (length old.engine.sessions.desk.board.sessions) old.engine all.published all.publishes)
-      (all_written old.links new.links all.published new.engine turn.written all.writes)
-
-  module _ (serves : (library at until : ℕ) (old new : LibraryDesk) (turn : LibTurn) → Serves library at until old new turn → RunsFor at old.desk.board new.desk.board) where
-    one_served : (library : ℕ) (old new : Serving) → ServesOne library old new → EngineKeeps old.engine new.engine
-    one_served library old new is =
-        let at = old.engine.moment in
-        let runs = serves library at (until_of old.engine) old.engine.sessions new.engine.sessions is.turn is.serves in
-        engine_kept old.engine new.engine (reached runs.happenings old.engine.sessions.desk.board new.engine.sessions.desk.board (All-weaker (IsOfLibraries at) IsQuiet (library_quiet at) runs.happenings runs.all) runs.reaches)
+    session_ticked : (s : ℕ) (old new : Engine) → TicksSession s old new → EngineKeeps old new
+    session_ticked s old new is =
+        engine_kept old new (ticked s old.moment (until_of old) old.sessions.desk new.sessions.desk is.end is.ticks)
         (ap (λ (e : Engine). e.accepted) is.rest) (ap (λ (e : Engine). e.connections) is.rest) (ap (λ (e : Engine). e.dialler) is.rest)
 
-    pub all_served : (count : ℕ) (old new : Serving) → InTurn (λ i. ServesOne (i + 1)) count old new → EngineKeeps old.engine new.engine
-    all_served count old new served =
-        each_in_turn (λ i. ServesOne (i + 1)) (λ (a b : Serving). EngineKeeps a.engine b.engine) (λ a. engine_itself a.engine)
-        (λ a b c. engine_further a.engine b.engine c.engine) (λ i a b. one_served (i + 1) a b) count old new served
+    pub all_ticked : (count : ℕ) (old new : Engine) → InTurn TicksSession count old new → EngineKeeps old new
+    all_ticked count old new ticks_are = engine_in_turn TicksSession count old new session_ticked ticks_are
 
-    -- the first half of a turn behind the connections that came
-    pub turn_taken : (reading : ℕ) (old new : AtWire) (taken : Taken) (is : TakesTurn reading old new taken) → EngineKeeps is.dialled.engine new.engine
-    turn_taken reading old new taken is =
-        let dialled = is.dialled in
-        let places = open_places dialled.engine.lines in
-        engine_further dialled.engine is.read new.engine (all_read places (length places) (reading_of dialled.engine dialled.links []) (reading_of is.read new.links taken.reads) is.reads)
-        (engine_further is.read is.ticked new.engine (all_ticked (length is.read.sessions.desk.board.sessions) is.read is.ticked is.ticks)
-        (engine_further is.ticked is.served new.engine (all_served (length is.ticked.sessions.ends.items) (serving_of is.ticked []) (serving_of is.served taken.libs) is.serves)
-        (all_noted (length is.served.sessions.desk.board.sessions) is.served new.engine is.notes)))
+    session_noted : (s : ℕ) (old new : Engine) → NotesSession s old new → EngineKeeps old new
+    session_noted s old new is =
+        engine_kept old new (unchanged old.sessions.desk.board new.sessions.desk.board (ap (λ (e : Engine). e.sessions.desk.board) is.1))
+        (ap (λ (e : Engine). e.accepted) is.1) (ap (λ (e : Engine). e.connections) is.1) (ap (λ (e : Engine). e.dialler) is.1)
+
+    session_published : (s : ℕ) (old new : Engine) → PublishesSession s old new → EngineKeeps old new
+    session_published s old new is =
+        engine_kept old new (unchanged old.sessions.desk.board new.sessions.desk.board is.board)
+        (ap (λ (e : Engine). e.accepted) is.rest) (ap (λ (e : Engine). e.connections) is.rest) (ap (λ (e : Engine). e.dialler) is.rest)
+
+    pub all_published : (count : ℕ) (old new : Engine) → InTurn PublishesSession count old new → EngineKeeps old new
+    all_published count old new publishes = engine_in_turn PublishesSession count old new session_published publishes
+
+    all_written : (links_old links_new : ℕ → Link) (old new : Engine) (bytes : ℕ) → WritesAll links_old links_new old new bytes → EngineKeeps old new
+    all_written links_old links_new old new bytes is =
+        let places = open_places old.lines in
+        record {
+          board = writes_walked _ _ (walks.writes places (length places) (written_so_far old.sessions.desk old.lines.unkept.items links_old 0) (written_so_far new.sessions.desk old.lines.unkept.items links_new bytes) is.writes);
+          accepted = ap (λ (e : Engine). e.accepted) is.rest;
+          connections = ap (λ (e : Engine). e.connections) is.rest;
+          dials = waits_in_turn new.sessions.desk.board old.lines.dialled.items old.moment (length old.lines.dialled.items) old.dialler new.dialler is.waits;
+        }
+
+    module _ (serves : (library at until : ℕ) (old new : LibraryDesk) (turn : LibTurn) → Serves library at until old new turn → RunsFor at old.desk.board new.desk.board) where
+      one_served : (library : ℕ) (old new : Serving) → ServesOne library old new → EngineKeeps old.engine new.engine
+      one_served library old new is =
+          let at = old.engine.moment in
+          let runs = serves library at (until_of old.engine) old.engine.sessions new.engine.sessions is.turn is.serves in
+          engine_kept old.engine new.engine (reached runs.happenings old.engine.sessions.desk.board new.engine.sessions.desk.board (All-weaker (IsOfLibraries at) IsQuiet (library_quiet at) runs.happenings runs.all) runs.reaches)
+          (ap (λ (e : Engine). e.accepted) is.rest) (ap (λ (e : Engine). e.connections) is.rest) (ap (λ (e : Engine). e.dialler) is.rest)
+
+      pub all_served : (count : ℕ) (old new : Serving) → InTurn (λ i. ServesOne (i + 1)) count old new → EngineKeeps old.engine new.engine
+      all_served count old new served =
+          each_in_turn (λ i. ServesOne (i + 1)) (λ (a b : Serving). EngineKeeps a.engine b.engine) (λ a. engine_itself a.engine)
+          (λ a b c. engine_further a.engine b.engine c.engine) (λ i a b. one_served (i + 1) a b) count old new served
+
+      pub quiet_step : (old new : AtWire) → QuietStep old new → EngineKeeps old.engine new.engine
+      quiet_step _ _ (walk.read k door old new is) = one_read k old new is
+      quiet_step _ _ (walk.ticked s door links old new is) = session_ticked s old new is
+      quiet_step _ _ (walk.served i door links old new is) = one_served (i + 1) old new is
+      quiet_step _ _ (walk.noted s door links old new is) = session_noted s old new is
+      quiet_step _ _ (walk.published s door links old new is) = session_published s old new is
+      quiet_step _ _ (walk.written door links_old links_new old new bytes is) = all_written links_old links_new old new bytes is

@@ -3,19 +3,19 @@ use Rattle.std.proofs.Common.{◌≡◌, inl, inr, ℕ, zero, suc, ◌+◌, ◌<
 use Rattle.std.proofs.lemmas.List.Elements.{All-cons, All-head, All-nil, All-push, All-tail, All-weaker}
 use Rattle.std.proofs.lemmas.Option.{none-some, same_Some}
 use Rattle.std.specs.List.{All}
-use Rattle.std.specs.Prelude.{IsNone, if◌then◌else◌, nat_lt, slice_index_or, unwrap_or}
+use Rattle.std.specs.Prelude.{IsNone, if◌then◌else◌, nat_lt, unwrap_or}
 use Rattle.std.specs.Result.{result_ok}
 use Rattle.connection_core.specs.Connection.{ConnectionState, after_end, after_next, after_taking, fresh, fresh_dial}
-use Rattle.engine_laws.specs.Account.{IsAccountedFor, IsAside, KeepsAccount, Progress, StaysAccountedFor, all_done, cutting, only}
+use Rattle.engine_laws.specs.Account.{IsAccountedFor, IsAccountedWith, IsAside, KeepsAccount, Progress, all_done, cutting, handling, only}
+use Rattle.engine_laws.specs.walks.Walks as walk
+use Rattle.engine_laws.specs.walks.Walks.{QuietStep, ReadMove, ReadSoFar, TurnStep, WriteMove}
 use Rattle.engine_laws.specs.Turns.{EngineStaysAccountedFor, board_of}
 use Rattle.engine_loop.specs.Engines.{until_of}
-use Rattle.engine_loop.specs.Turns.{AcceptsNext, AtWire, DialsSession, GivesTurn, MakesTurn, NotesSession, PublishesSession, Reading, ReadsIfStands, ServesOne, Serving, TakesTurn, TicksSession, WritesAll, at_wire, reading_of, serving_of, with_moment}
+use Rattle.engine_loop.specs.Turns.{AcceptsNext, AtWire, DialsSession, MakesTurn, NotesSession, PublishesSession, Reading, ReadsIfStands, ServesOne, Serving, TicksSession, WritesAll, at_wire, with_moment}
 use Rattle.engine_loop.specs.declared.engine.Engine.{Engine}
-use Rattle.engine_loop.specs.declared.records.Taken.{Taken}
 use Rattle.engine_loop.specs.declared.records.Turn.{Turn}
-use Rattle.fix_fields.specs.Field.{Field}
 use Rattle.fix_fields.specs.Reading.{fields_of}
-use Rattle.fix_frame.specs.Cut.{CutPiece, cut, garbled, good}
+use Rattle.fix_frame.specs.Cut.{cut}
 use Rattle.fix_frame.specs.declared.layout.TheConstants.{LONGEST_FRAME}
 use Rattle.gate_io.specs.Wire.{Link}
 use Rattle.gate_io.specs.declared.dials.Dialled.{Dialled}
@@ -23,32 +23,28 @@ use Rattle.gate_io.specs.declared.dials.Dialled.TheVariants as dial
 use Rattle.gate_io.specs.declared.wires.Accepted.{Accepted}
 use Rattle.gate_io.specs.declared.wires.Accepted.TheVariants as accept
 use Rattle.gate_io.specs.declared.wires.WireGot.{WireGot}
-use Rattle.gate_io.specs.declared.wires.WireGot.TheVariants as got
-use Rattle.headline.proofs.Causes.{IsInnerErr, message_inner, route_inner}
-use Rattle.headline.proofs.Walk.{each_in_turn}
+use Rattle.headline.proofs.Causes.{IsInnerErr, greeting_inner, message_inner}
+use Rattle.headline.proofs.AccountLaws.{AccountLaws, so_far}
+use Rattle.headline.proofs.Walking.{each_in_turn, turn_walked, walked}
 use Rattle.headline.specs.Ends.{AllEndedWhole, EndedWhole, HoldsNone, is_from_outside}
 use Rattle.lease_core.specs.State.{state_of}
 use Rattle.lease_core.specs.declared.entry.Entry.{Entry}
 use Rattle.lease_desk.specs.Desk.{Gathers, InTurn, bodies_of}
 use Rattle.lease_desk.specs.declared.desk.LeaseDesk.{LeaseDesk}
-use Rattle.library_desk.specs.Happening.{IsOfLibraries, RunsFor}
-use Rattle.library_desk.specs.Serving.{Serves}
-use Rattle.library_desk.specs.declared.desk.LibraryDesk.{LibraryDesk}
-use Rattle.library_desk.specs.declared.serving.LibTurn.{LibTurn}
+use Rattle.library_desk.specs.Happening.{IsOfLibraries}
 use Rattle.session_book.specs.Book.{Book}
 use Rattle.session_book.specs.Records.{Pending}
-use Rattle.session_core.specs.Route.{route, session_of}
 use Rattle.session_core.specs.State.{State}
 use Rattle.session_core.specs.declared.causes.Cause.{Cause}
-use Rattle.session_core.specs.declared.causes.Cause.TheVariants.{End, NotLogon, ReadFault, Silent}
-use Rattle.session_desk.specs.Steps.{GreetsAs, Hears, Ticks, binding, bound_on, ending, greeting, is_answer, lapsing, parting, session_on, unless_bound}
+use Rattle.session_desk.specs.Steps.{GreetsAs, Hears, Ticks, binding, ending, greeting, is_answer, lapsing, parting}
 use Rattle.session_desk.specs.declared.routes.Routes.{Routes}
 use Rattle.switchboard.specs.Board.{Board, OutboxChanges, book_at, connection_at, no_connection, place_at}
+use Rattle.switchboard.specs.Brought.{good_bodies}
 use Rattle.switchboard.specs.Happenings.{BindsTo, BookChanges, ConnectionChanges, EndsBound, Happening, Happens, Reaches, SessionGoesOn, accepts, answers, binds, binds_and_ends, dials, ends_bound, ends_unbound, gives, lapses, prepares, receives, requests, reserves, shows, takes, ticks, times_out, writes}
 use Rattle.switchboard.specs.Ready.{IsReady}
 use Rattle.wire_desk.specs.Dials.{DialsAs}
 use Rattle.wire_desk.specs.Places.{open_places}
-use Rattle.wire_desk.specs.Steps.{AcceptsAs, Handles, HandlesAll, HandlesBody, HandlesNext, LeavesIfTardy, PartsBy, PartsIfNeeded, PreparesTo, Reads, ReadsAs, Sessions, StopsAt, WritesAt, WritesInTurn, WritesSome, WrittenSoFar, cause_behind, sessions_of, written_so_far}
+use Rattle.wire_desk.specs.Steps.{AcceptsAs, Reads, Sessions, WritesInTurn, WrittenSoFar, written_so_far}
 use Rattle.wire_desk.specs.declared.dialling.Dialler.{Dialler}
 
 abbrev GoesOnWhole : Board → Board → Type 0
@@ -188,91 +184,27 @@ bound_by : (s k : ℕ) (body : List ℕ) (at : ℕ) (end : Option Cause) (old ne
 bound_by s k body at None old new is = calm (binds s k body at) old new tt is
 bound_by s k body at (Some cause) old new is = calm (binds_and_ends s k body at cause) old new tt is
 
--- a first message that is refused
-unbound_inner : (bound : Option ℕ) (routed : Result ℕ Cause) → IsInnerErr routed → IsInnerErr (unless_bound bound routed)
-unbound_inner None routed inner = inner
-unbound_inner (Some connection) (Ok a) inner = refl
-unbound_inner (Some connection) (Err NotLogon) inner = refl
-unbound_inner (Some connection) (Err other) inner = refl
-
-on_inner : (routes : Routes) (routed : Result ℕ Cause) → IsInnerErr routed → IsInnerErr (session_on routes routed)
-on_inner routes (Ok j) inner = tt
-on_inner routes (Err cause) inner = inner
-
-greeting_inner : (board : Board) (routes : Routes) (fields : Option (List Field)) → IsInnerErr (greeting board routes fields)
-greeting_inner board routes None = refl
-greeting_inner board routes (Some fields) =
-    on_inner routes (unless_bound (bound_on board routes (session_of fields routes.names.items)) (route fields routes.names.items))
-    (unbound_inner (bound_on board routes (session_of fields routes.names.items)) (route fields routes.names.items) (route_inner fields routes.names.items))
-
 greeted : (found : Result ℕ Cause) (k : ℕ) (body : List ℕ) (at until : ℕ) (old new : LeaseDesk) (unkept_old unkept_new : List Pending) (end : Option Cause) → IsInnerErr found
     → GreetsAs found k body at until old new unkept_old unkept_new end → GoesOnWhole old.board new.board
 greeted (Ok s) k body at until old new unkept_old unkept_new end inner is = λ was.
     bound_by s k body at end is.gathered.board new.board is.binds (gathered s at until old is.gathered is.gathers was)
 greeted (Err cause) k body at until old new unkept_old unkept_new end inner is = refused k cause old.board new.board (inner_may old.board k cause inner) is.ends
 
-abbrev WholeOf : Sessions → Sessions → Type 0
-WholeOf old new = GoesOnWhole old.desk.board new.desk.board
-
-same_of : (old new : Sessions) → new ≡ old → WholeOf old new
-same_of old new same = same_lines old.desk.board new.desk.board (ap (λ (sessions : Sessions). sessions.desk.board.connections) same)
-
-body_handled : (session : Option ℕ) (routes : Routes) (k : ℕ) (body : List ℕ) (at until : ℕ) (old new : Sessions) → HandlesBody session routes k body at until old new → WholeOf old new
-body_handled (Some s) routes k body at until old new is = heard s k body at until old.desk new.desk old.unkept new.unkept is.0 is.1
-body_handled None routes k body at until old new is =
-    let fields = result_ok (fields_of body) in
-    greeted (greeting old.desk.board routes fields) k body at until old.desk new.desk old.unkept new.unkept is.0 (greeting_inner old.desk.board routes fields) is.1
-
-piece_handled : (piece : CutPiece) (routes : Routes) (k at until : ℕ) (old new : Sessions) → Handles piece routes k at until old new → WholeOf old new
-piece_handled (garbled size) routes k at until old new same = same_of old new same
-piece_handled (good body) routes k at until old new handles = body_handled (connection_at old.desk.board k).session routes k body at until old new handles
-
-next_handled : (routes : Routes) (k at until : ℕ) (old new : Sessions) → HandlesNext routes k at until old new → WholeOf old new
-next_handled routes k at until old new is = λ was.
-    piece_handled is.piece routes k at until (sessions_of is.given old.unkept) new is.handles (calm (gives k) old.desk.board is.given.board tt is.gives was)
-
-stopped : (k : ℕ) (old new : Sessions) → StopsAt k old new → WholeOf old new
-stopped k old new stops = elim stops [
-  | inl ended ↦ same_of old new ended.1
-  | inr finds ↦ calm (gives k) old.desk.board new.desk.board tt finds.gives
-]
-
-all_handled : (routes : Routes) (k at until : ℕ) (old new : Sessions) → HandlesAll routes k at until old new → WholeOf old new
-all_handled routes k at until old new is = λ was.
-    stopped k is.between new is.stops
-    (each_in_turn (λ i. HandlesNext routes k at until) WholeOf (λ sessions was. was) (λ a b c one two was. two (one was)) (λ i a b. next_handled routes k at until a b) is.count old is.between is.handles was)
-
--- what the laws of accounts say
-pub record EndLaws (before : ℕ → List Entry) (start : ℕ → State) : Type 0 where
-  pub itself : (progress : ℕ → Progress) (at : ℕ) (board : Board) → KeepsAccount progress progress at board board
-  pub further : (one two three : ℕ → Progress) (at : ℕ) (first second third : Board) → KeepsAccount one two at first second → KeepsAccount two three at second third → KeepsAccount one three at first third
-  pub gathers : (progress : ℕ → Progress) (s at until : ℕ) (old new : LeaseDesk) → Gathers s at until old new → KeepsAccount progress progress at old.board new.board
-  pub aside : (progress : ℕ → Progress) (at : ℕ) (happenings : List Happening) (old new : Board) → All (IsAside at) happenings → Reaches happenings old new → KeepsAccount progress progress at old new
-  pub takes : (k : ℕ) (bytes : List ℕ) (at : ℕ) (old new : Board) → Happens (takes k bytes) old new → KeepsAccount all_done (only k cutting) at old new
-  pub handles_all : (routes : Routes) (k at until : ℕ) (old new : Sessions) → HandlesAll routes k at until old new → KeepsAccount (only k cutting) all_done at old.desk.board new.desk.board
-  pub parts : (session : Option ℕ) (k : ℕ) (cause : Cause) (at : ℕ) (old new : Board) → Happens (parting session k cause) old new → StaysAccountedFor at old new
-  pub accepts : (answer : Accepted) (old new : AtWire) → AcceptsNext answer old new → EngineStaysAccountedFor old.engine new.engine
-  pub dials : (s : ℕ) (old new : AtWire) → DialsSession s old new → EngineStaysAccountedFor old.engine new.engine
-  pub reads : (k : ℕ) (old new : Reading) → ReadsIfStands k old new → EngineStaysAccountedFor old.engine new.engine
-  pub ticks : (s : ℕ) (old new : Engine) → TicksSession s old new → EngineStaysAccountedFor old new
-  pub serves : (library : ℕ) (old new : Serving) → ServesOne library old new → EngineStaysAccountedFor old.engine new.engine
-  pub notes : (s : ℕ) (old new : Engine) → NotesSession s old new → EngineStaysAccountedFor old new
-  pub publishes : (s : ℕ) (old new : Engine) → PublishesSession s old new → EngineStaysAccountedFor old new
-  pub further_steps : (first second third : Engine) → EngineStaysAccountedFor first second → EngineStaysAccountedFor second third → EngineStaysAccountedFor first third
-  pub serving : (library at until : ℕ) (old new : LibraryDesk) (turn : LibTurn) → Serves library at until old new turn → RunsFor at old.desk.board new.desk.board
-
-module _ (before : ℕ → List Entry) (start : ℕ → State) (g : EndLaws before start) where
-  -- Sessions and connections are accounted for at a moment, with each piece that is whole handed out.
-  record IsWholeAt (at : ℕ) (board : Board) : Type 0 where
+module _ (before : ℕ → List Entry) (start : ℕ → State) (g : AccountLaws) where
+  -- Sessions and connections are accounted for at a moment, and those that ended from outside had each piece that is whole handed out.
+  record IsWholeSo (progress : ℕ → Progress) (at : ℕ) (board : Board) : Type 0 where
     ready : IsReady before board
-    account : IsAccountedFor before start at board
+    account : IsAccountedWith progress before start at board
     ended : AllEndedWhole board
+
+  abbrev IsWholeAt : ℕ → Board → Type 0
+  IsWholeAt at board = IsWholeSo all_done at board
 
   abbrev Keeps : ℕ → Board → Board → Type 0
   Keeps at old new = IsWholeAt at old → IsWholeAt at new
 
-  by_account : (at : ℕ) (old new : Board) → StaysAccountedFor at old new → (IsWholeAt at old → AllEndedWhole new) → Keeps at old new
-  by_account at old new stays ended was = record {
+  by_account : (one two : ℕ → Progress) (at : ℕ) (old new : Board) → KeepsAccount one two at old new → (IsWholeSo one at old → AllEndedWhole new) → IsWholeSo one at old → IsWholeSo two at new
+  by_account one two at old new stays ended was = record {
     ready = stays.ready before was.ready;
     account = stays.account before start at (omega arith) was.ready was.account;
     ended = ended was;
@@ -284,21 +216,21 @@ module _ (before : ℕ → List Entry) (start : ℕ → State) (g : EndLaws befo
 
   parts_at : (session : Option ℕ) (k : ℕ) (cause : Cause) (at : ℕ) (old new : Board) → Happens (parting session k cause) old new → Keeps at old new
   parts_at session k cause at old new is =
-      by_account at old new (g.parts session k cause at old new is) (λ was. parted session k cause old new (may_end at old k cause was) is was.ended)
+      by_account all_done all_done at old new (g.parts session k cause at old new is) (λ was. parted session k cause old new (may_end at old k cause was) is was.ended)
 
   unchanged : (at : ℕ) (old new : Board) → new ≡ old → Keeps at old new
   unchanged at old new same was = subst (IsWholeAt at) (sym same) was
 
   -- happenings aside, by which no connection ends
   aside_at : (at : ℕ) (happenings : List Happening) (old new : Board) → All (IsAside at) happenings → All IsCalm happenings → Reaches happenings old new → Keeps at old new
-  aside_at at happenings old new aside calm_all is = by_account at old new (g.aside all_done at happenings old new aside is) (λ was. reached happenings old new calm_all is was.ended)
+  aside_at at happenings old new aside calm_all is = by_account all_done all_done at old new (g.aside all_done at happenings old new aside is) (λ was. reached happenings old new calm_all is was.ended)
 
   alone_at : (at : ℕ) (happening : Happening) (old new : Board) → IsAside at happening → IsCalm happening → Happens happening old new → Keeps at old new
   alone_at at happening old new aside is_calm is =
       aside_at at (happening ∷ []) old new (All-cons (IsAside at) happening [] aside (All-nil (IsAside at))) (one_calm happening is_calm) (new, (is, refl))
 
   gathered_at : (s at until : ℕ) (old new : LeaseDesk) → Gathers s at until old new → Keeps at old.board new.board
-  gathered_at s at until old new is = by_account at old.board new.board (g.gathers all_done s at until old new is) (λ was. gathered s at until old new is was.ended)
+  gathered_at s at until old new is = by_account all_done all_done at old.board new.board (g.gathers all_done s at until old new is) (λ was. gathered s at until old new is was.ended)
 
   lapsed_once : (lapses_not : Bool) (s at : ℕ) (old new : Board) → Reaches (if lapses_not then [] else lapses s ∷ []) old new → Keeps at old new
   lapsed_once true s at old new is = unchanged at old new is
@@ -324,58 +256,42 @@ module _ (before : ℕ → List Entry) (start : ℕ → State) (g : EndLaws befo
       ticked_then s at (place_at is.lapsed s) end is.lapsed new.board is.follows
       (lapsed_at s (state_of (book_at is.gathered.board s).entries).reserved at is.gathered.board is.lapsed is.lapses (gathered_at s at until old is.gathered is.gathers was))
 
-  abbrev KeepsOf : ℕ → Sessions → Sessions → Type 0
-  KeepsOf at old new = Keeps at old.desk.board new.desk.board
+  -- a move as a connection is read, and as connections are written to
+  abbrev KeepsSoFar : ℕ → ℕ → ReadSoFar → ReadSoFar → Type 0
+  KeepsSoFar k at old new = IsWholeSo (so_far k old.progress) at old.desk.board → IsWholeSo (so_far k new.progress) at new.desk.board
 
-  same_at : (at : ℕ) (old new : Sessions) → new ≡ old → KeepsOf at old new
-  same_at at old new same = unchanged at old.desk.board new.desk.board (ap (λ (sessions : Sessions). sessions.desk.board) same)
+  given_at : (two : ℕ → Progress) (k at : ℕ) (old new : Board) → Happens (gives k) old new → KeepsAccount (only k cutting) two at old new → IsWholeSo (only k cutting) at old → IsWholeSo two at new
+  given_at two k at old new is stays = by_account (only k cutting) two at old new stays (λ was. calm (gives k) old new tt is was.ended)
 
-  parted_by : (k : ℕ) (cause : Cause) (at : ℕ) (old new : Sessions) → PartsBy k cause old new → KeepsOf at old new
-  parted_by k cause at old new is = parts_at (connection_at old.desk.board k).session k cause at old.desk.board new.desk.board is.parts
+  read_moved : (routes : Routes) (k at until : ℕ) (old new : ReadSoFar) → ReadMove routes k at until old new → KeepsSoFar k at old new
+  read_moved routes k at until _ _ (walk.bytes_come bytes old new is) =
+      by_account all_done (only k cutting) at old.board new.board (g.takes k bytes at old.board new.board is.0) (λ was. calm (takes k bytes) old.board new.board tt is.0 was.ended)
+  read_moved routes k at until _ _ (walk.garbled_out size old new next is) = given_at (only k cutting) k at old.board new.board is.0 (g.gives_none k at old.board new.board is.0 (ap good_bodies next))
+  read_moved routes k at until _ _ (walk.body_out body old new next is) = given_at (only k (handling body)) k at old.board new.board is.0 (g.gives_one k at body old.board new.board is.0 (ap good_bodies next))
+  read_moved routes k at until _ _ (walk.heard s body end old new named is) =
+      by_account (only k (handling body)) (only k cutting) at old.desk.board new.desk.board (g.hears s k body at until old.desk new.desk old.unkept new.unkept end is)
+      (λ was. heard s k body at until old.desk new.desk old.unkept new.unkept end is was.ended)
+  read_moved routes k at until _ _ (walk.greeted body end old new unnamed is) =
+      let fields = result_ok (fields_of body) in
+      let found = greeting old.desk.board routes fields in
+      by_account (only k (handling body)) (only k cutting) at old.desk.board new.desk.board (g.greets found k body at until old.desk new.desk old.unkept new.unkept end is)
+      (λ was. greeted found k body at until old.desk new.desk old.unkept new.unkept end (greeting_inner old.desk.board routes fields) is was.ended)
+  read_moved routes k at until _ _ (walk.none_out old new none is) = given_at all_done k at old.board new.board is.0 (g.gives_last k at old.board new.board is.0 none)
+  read_moved routes k at until _ _ (walk.had_ended desk ended) = by_account (only k cutting) all_done at desk.board desk.board (g.stops k at desk.board ended) (λ was. was.ended)
+  read_moved routes k at until _ _ (walk.parted cause old new ends is) = parts_at (connection_at old.board k).session k cause at old.board new.board is.0
 
-  read_as : (answer : WireGot) (routes : Routes) (k : ℕ) (buffer : List ℕ) (at until : ℕ) (old new : Sessions) → ReadsAs answer routes k buffer at until old new → KeepsOf at old new
-  read_as (got.Bytes n) routes k buffer at until old new is =
-      let taken = sessions_of is.taken old.unkept in
-      by_account at old.desk.board new.desk.board
-      (g.further all_done (only k cutting) all_done at old.desk.board is.taken.board new.desk.board (g.takes k _ at old.desk.board is.taken.board is.takes) (g.handles_all routes k at until taken new is.handles))
-      (λ was. all_handled routes k at until taken new is.handles (calm (takes k _) old.desk.board is.taken.board tt is.takes was.ended))
-  read_as got.End routes k buffer at until old new is = parted_by k End at old new is
-  read_as got.Failed routes k buffer at until old new is = parted_by k ReadFault at old new is
-  read_as got.Blocked routes k buffer at until old new is = same_at at old new is
+  read_at : (answer : WireGot) (routes : Routes) (k : ℕ) (buffer : List ℕ) (at until : ℕ) (old new : Sessions) → Reads answer routes k buffer at until old new → Keeps at old.desk.board new.desk.board
+  read_at answer routes k buffer at until old new is =
+      walked (ReadMove routes k at until) (KeepsSoFar k at) (λ a was. was) (λ a b c one two was. two (one was)) (read_moved routes k at until) _ _ (g.walks.reads answer routes k buffer at until old new is)
 
-  tardy_left : (k at : ℕ) (old new : Sessions) → LeavesIfTardy k at old new → KeepsOf at old new
-  tardy_left k at old new leaves = elim leaves [
-    | inl tardy ↦ parted_by k (Silent (connection_at old.desk.board k).since) at old new tardy.1
-    | inr same ↦ same_at at old new same.1
-  ]
+  write_moved : (at : ℕ) (old new : LeaseDesk) → WriteMove old new → Keeps at old.board new.board
+  write_moved at _ _ (walk.made s k old new is) = alone_at at (prepares s k) old.board new.board tt tt is.0
+  write_moved at _ _ (walk.wrote k n old new is) = alone_at at (writes k n) old.board new.board tt tt is.0
+  write_moved at _ _ (walk.left k stop cause old new ends is) = parts_at (connection_at old.board k).session k cause at old.board new.board is.0
+  write_moved at _ _ (walk.stayed old new board seat) = unchanged at old.board new.board board
 
-  read_at : (answer : WireGot) (routes : Routes) (k : ℕ) (buffer : List ℕ) (at until : ℕ) (old new : Sessions) → Reads answer routes k buffer at until old new → KeepsOf at old new
-  read_at answer routes k buffer at until old new is = λ was. tardy_left k at is.between new is.tardy (read_as answer routes k buffer at until old is.between is.reads was)
-
-  prepared_to : (session : Option ℕ) (k at : ℕ) (old new : Board) → PreparesTo session k old new → Keeps at old new
-  prepared_to None k at old new same = unchanged at old new same
-  prepared_to (Some s) k at old new is = alone_at at (prepares s k) old new tt tt is.0
-
-  written_some : (k n at : ℕ) (old new : Board) → WritesSome k n old new → Keeps at old new
-  written_some k n at old new writes_some = elim writes_some [
-    | inl none ↦ unchanged at old new none.1
-    | inr some ↦ alone_at at (writes k n) old new tt tt some
-  ]
-
-  parted_if_needed : (cause : Option Cause) (k at : ℕ) (old new : Board) → PartsIfNeeded cause k old new → Keeps at old new
-  parted_if_needed None k at old new same = unchanged at old new same
-  parted_if_needed (Some cause) k at old new is = parts_at (connection_at old k).session k cause at old new is
-
-  written_at : (at k : ℕ) (old new : WrittenSoFar) → WritesAt k old new → KeepsOf at old.sessions new.sessions
-  written_at at k old new is = λ was.
-      let one = is.writes in
-      let board = old.sessions.desk.board in
-      parted_if_needed (cause_behind is.written.stop (connection_at one.wrote.board k)) k at one.wrote.board new.sessions.desk.board one.ends
-      (written_some k is.written.bytes at one.prepared one.wrote.board one.writes (prepared_to (connection_at board k).session k at board one.prepared one.prepares was))
-
-  written_in_turn : (at : ℕ) (places : List ℕ) (count : ℕ) (old new : WrittenSoFar) → WritesInTurn places count old new → KeepsOf at old.sessions new.sessions
-  written_in_turn at places count old new steps =
-      each_in_turn (λ i. WritesAt (slice_index_or places i 0)) (λ a b. KeepsOf at a.sessions b.sessions) (λ so_far was. was) (λ a b c one two was. two (one was)) (λ i a b. written_at at (slice_index_or places i 0) a b) count old new steps
+  written_in_turn : (at : ℕ) (places : List ℕ) (count : ℕ) (old new : WrittenSoFar) → WritesInTurn places count old new → Keeps at old.sessions.desk.board new.sessions.desk.board
+  written_in_turn at places count old new is = walked WriteMove (λ a b. Keeps at a.board b.board) (λ a was. was) (λ a b c one two was. two (one was)) (write_moved at) _ _ (g.walks.writes places count old new is)
 
   -- a step of the engine, at its moment
   record Moves (old new : Engine) : Type 0 where
@@ -394,7 +310,7 @@ module _ (before : ℕ → List Entry) (start : ℕ → State) (g : EndLaws befo
   calmly : (old new : Engine) → EngineStaysAccountedFor old new → GoesOnWhole (board_of old) (board_of new) → Moves old new
   calmly old new stays goes = record {
     moment = stays.moment;
-    keeps = λ at is. subst (λ n. Keeps n (board_of old) (board_of new)) is (by_account old.moment (board_of old) (board_of new) stays.board (λ was. goes was.ended));
+    keeps = λ at is. subst (λ n. Keeps n (board_of old) (board_of new)) is (by_account all_done all_done old.moment (board_of old) (board_of new) stays.board (λ was. goes was.ended));
   }
 
   accepted_as : (answer : Accepted) (at : ℕ) (old new : LeaseDesk) → AcceptsAs answer at old new → GoesOnWhole old.board new.board
@@ -458,39 +374,24 @@ module _ (before : ℕ → List Entry) (start : ℕ → State) (g : EndLaws befo
         keeps = λ at is_at. written_in_turn at places (length places) (written_so_far old.sessions.desk old.lines.unkept.items links_old 0) (written_so_far new.sessions.desk old.lines.unkept.items links_new bytes) is.writes;
       }
 
-  engine_in_turn : (Step : ℕ → Engine → Engine → Type 0) (count : ℕ) (old new : Engine) → ((i : ℕ) (a b : Engine) → Step i a b → Moves a b) → InTurn Step count old new → Moves old new
-  engine_in_turn Step count old new each steps = each_in_turn Step Moves moves_itself moves_further each count old new steps
+  quiet_step : (old new : AtWire) → QuietStep old new → Moves old.engine new.engine
+  quiet_step _ _ (walk.read k door old new is) = one_read k old new is
+  quiet_step _ _ (walk.ticked s door links old new is) = session_ticked s old new is
+  quiet_step _ _ (walk.served i door links old new is) = one_served (i + 1) old new is
+  quiet_step _ _ (walk.noted s door links old new is) = session_noted s old new is
+  quiet_step _ _ (walk.published s door links old new is) = session_published s old new is
+  quiet_step _ _ (walk.written door links_old links_new old new bytes is) = all_written links_old links_new old new bytes is
 
-  turn_given : (old new : AtWire) (taken : Taken) (turn : Turn) → GivesTurn old new taken turn → Moves old.engine new.engine
-  turn_given old new taken turn is =
-      let all = is.gives in
-      moves_further old.engine all.published new.engine (engine_in_turn PublishesSession (length old.engine.sessions.desk.board.sessions) old.engine all.published session_published all.publishes)
-      (all_written old.links new.links all.published new.engine turn.written all.writes)
-
-  turn_taken : (reading : ℕ) (old new : AtWire) (taken : Taken) → TakesTurn reading old new taken → Moves (with_moment reading old.engine) new.engine
-  turn_taken reading old new taken is =
-      let begun = with_moment reading old.engine in
-      let accepted = is.accepted in
-      let dialled = is.dialled in
-      let places = open_places dialled.engine.lines in
-      moves_further begun accepted.engine new.engine (next_accepted taken.accepted (at_wire begun old.door old.links) accepted is.accepts)
-      (moves_further accepted.engine dialled.engine new.engine
-      (each_in_turn DialsSession (λ (a b : AtWire). Moves a.engine b.engine) (λ a. moves_itself a.engine) (λ a b c. moves_further a.engine b.engine c.engine) session_dialled
-      (length accepted.engine.sessions.desk.board.sessions) accepted dialled is.dials)
-      (moves_further dialled.engine is.read new.engine
-      (each_in_turn (λ i. ReadsIfStands (slice_index_or places i 0)) (λ (a b : Reading). Moves a.engine b.engine) (λ a. moves_itself a.engine) (λ a b c. moves_further a.engine b.engine c.engine)
-      (λ i a b. one_read (slice_index_or places i 0) a b) (length places) (reading_of dialled.engine dialled.links []) (reading_of is.read new.links taken.reads) is.reads)
-      (moves_further is.read is.ticked new.engine (engine_in_turn TicksSession (length is.read.sessions.desk.board.sessions) is.read is.ticked session_ticked is.ticks)
-      (moves_further is.ticked is.served new.engine
-      (each_in_turn (λ i. ServesOne (i + 1)) (λ (a b : Serving). Moves a.engine b.engine) (λ a. moves_itself a.engine) (λ a b c. moves_further a.engine b.engine c.engine)
-      (λ i a b. one_served (i + 1) a b) (length is.ticked.sessions.ends.items) (serving_of is.ticked []) (serving_of is.served taken.libs) is.serves)
-      (engine_in_turn NotesSession (length is.served.sessions.desk.board.sessions) is.served new.engine session_noted is.notes)))))
+  step : (old new : AtWire) → TurnStep old new → Moves old.engine new.engine
+  step _ _ (walk.accepted answer old new is) = next_accepted answer old new is
+  step _ _ (walk.dialled s old new is) = session_dialled s old new is
+  step _ _ (walk.quiet old new is) = quiet_step old new is
 
   pub turn_whole : (reading : ℕ) (old new : AtWire) (turn : Turn) → MakesTurn reading old new turn → IsReady before (board_of old.engine) → IsAccountedFor before start old.engine.moment (board_of old.engine)
       → AllEndedWhole (board_of old.engine) → AllEndedWhole (board_of new.engine)
   turn_whole reading old new turn is ready account ended =
       let begun = with_moment reading old.engine in
-      let moves = moves_further begun is.middle.engine new.engine (turn_taken reading old is.middle is.taken is.takes) (turn_given is.middle new is.taken turn is.gives) in
+      let moves : Moves begun new.engine = turn_walked Moves moves_itself moves_further step (at_wire begun old.door old.links) new (g.walks.turn reading old new turn is) in
       let later : old.engine.moment ≤ begun.moment = omega arith in
       (moves.keeps begun.moment refl (record {
         ready = ready;

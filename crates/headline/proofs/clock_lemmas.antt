@@ -3,7 +3,6 @@ pub mod Phases
 pub mod Books
 pub mod Causes
 pub mod Journals
-pub mod InTurn
 pub mod Lines
 pub mod Libraries
 pub mod Opened

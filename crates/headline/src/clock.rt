@@ -15,6 +15,7 @@ use engine_laws::laws::{
     accounts_are_whole, happenings_are_accounted_for, sessions_are_accounted_for,
     steps_are_accounted_for,
 };
+use engine_laws::walks::turns_are_walks;
 use library_desk::laws::serving_happens;
 
 /// Whatever script is served, a connection of its record ended since nothing came only where the clock had gone on for as long as
@@ -24,6 +25,7 @@ pub fn silences_are_waited_for()
     ensures { (script : Script) (turns : ℕ) (wide : Bool) (old new : Door) (old_links new_links : ℕ → Link) (left : RunRecord) (spent : Option ℕ)
         (serves : Serves script turns wide AnyReadings old new old_links new_links left spent) → KeepsTime script.config serves.reading serves.drives.last.readings left }
 {
+    turns_are_walks();
     accounts_are_whole();
     happenings_are_accounted_for();
     sessions_are_accounted_for();

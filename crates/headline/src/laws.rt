@@ -41,10 +41,11 @@ use crate::runs::{
 };
 use crate::serving::{drives_are_accounted_for, served_scripts_are_accounted_for};
 use engine_laws::laws::{
-    accounts_are_whole, happenings_are_accounted_for, lines_are_accounted_for,
-    sessions_are_accounted_for, steps_are_accounted_for, stops_are_accounted_for,
+    accounts_are_whole, happenings_are_accounted_for, sessions_are_accounted_for,
+    steps_are_accounted_for, stops_are_accounted_for,
 };
 use engine_laws::texts::texts_are_taken;
+use engine_laws::walks::turns_are_walks;
 use lease_core::laws::{
     entries_decide_one_by_one, holdings_adjoin, lines_tell_deeds, one_owner_at_a_time,
 };
@@ -64,6 +65,7 @@ pub fn connections_are_numbered()
     ensures gathers { (at until : ℕ) (old new : LeaseDesk) → GathersAll at until old new → (accepted dialled : ℕ) → AreInOrder accepted dialled old.board.connections
         → AreInOrder accepted dialled new.board.connections }
 {
+    turns_are_walks();
     serving_happens();
 }
 
@@ -78,10 +80,10 @@ pub fn connections_end_whole()
         → AllEndedWhole old.engine.sessions.desk.board → AllEndedWhole new.engine.sessions.desk.board }
     ensures gathers { (at until : ℕ) (old new : LeaseDesk) → GathersAll at until old new → AllEndedWhole old.board → AllEndedWhole new.board }
 {
+    turns_are_walks();
     serving_happens();
     happenings_are_accounted_for();
     sessions_are_accounted_for();
-    lines_are_accounted_for();
     steps_are_accounted_for();
     runs_are_accounted_for();
 }
@@ -96,6 +98,7 @@ pub fn logons_come_first()
         → LogonsComeFirst old.at.engine.sessions.desk.board → LogonsComeFirst new.at.engine.sessions.desk.board }
     ensures gathers { (at until : ℕ) (old new : LeaseDesk) → GathersAll at until old new → LogonsComeFirst old.board → LogonsComeFirst new.board }
 {
+    turns_are_walks();
     entries_stay();
     entries_decide_one_by_one();
     acts_are_told();
@@ -113,6 +116,7 @@ pub fn served_headlines_hold()
     ensures finished { (script : Script) (turns : ℕ) (wide : Bool) (old new : Door) (old_links new_links : ℕ → Link) (left : RunRecord)
         → Serves script turns wide AnyReadings old new old_links new_links left None → old.accepted ≡ 0 → old.dialled ≡ 0 → IsFinished script.config.connections script.config.dials left }
 {
+    turns_are_walks();
     connections_are_numbered();
     connections_end_whole();
     logons_come_first();
@@ -120,7 +124,6 @@ pub fn served_headlines_hold()
     accounts_are_whole();
     happenings_are_accounted_for();
     sessions_are_accounted_for();
-    lines_are_accounted_for();
     steps_are_accounted_for();
     serving_happens();
     holdings_adjoin();
@@ -195,6 +198,7 @@ pub fn headlines_hold_in_part()
     ensures serves { (script : Script) (turns : ℕ) (wide : Bool) (old : Door) (old_links : ℕ → Link) (left : RunRecord) → ServesInPart script turns wide old old_links left → IsConfig script.config
         → old.accepted ≡ 0 → old.dialled ≡ 0 → HeadlineInPart script.config left }
 {
+    turns_are_walks();
     boards_go_on();
     serving_happens();
     happenings_are_accounted_for();

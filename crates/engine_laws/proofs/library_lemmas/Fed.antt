@@ -33,7 +33,7 @@ use Rattle.engine_laws.specs.libraries.Feeds.{AreFed, IsFed, IsLogged, IsPumpedF
 use Rattle.engine_laws.proofs.library_lemmas.Ends.{ends_change}
 use Rattle.engine_laws.proofs.library_lemmas.Going.{Keeps, Laws, by_going, keeps_further, keeps_itself, one_keeps, taking_back_keeps}
 use Rattle.engine_laws.proofs.library_lemmas.Orders.{aside_next, aside_order, is_of_other, is_of_own, messages_aside, messages_logged, messages_order, next_append, order_append, own_next, own_order}
-use Rattle.engine_laws.proofs.library_lemmas.Steps.{each_in_turn, small_in_turn}
+use Rattle.engine_laws.proofs.Walking.{each_in_turn, small_in_turn}
 use Rattle.ring_links.specs.Ends.{HeadView, TailView}
 use Rattle.session_book.specs.Book.{Book}
 use Rattle.switchboard.specs.Board.{Board, book_at}

@@ -26,7 +26,7 @@ use Rattle.library_desk.specs.declared.serving.LibTurn.{LibTurn}
 use Rattle.library_desk.specs.declared.serving.LibTurn.TheVariants.{Answered, Ended, NoCommand, NoRoom}
 use Rattle.engine_laws.specs.libraries.Replies.{AllAreAnswered, AreAnswered, Ask, IsAnswered, KeepsReplies, answered_by, asked_by, is_unasked, replies_told, reply_of, reply_told, stray_reply, stray_told}
 use Rattle.engine_laws.proofs.library_lemmas.Ends.{ends_change, get_set_other, get_set_same}
-use Rattle.engine_laws.proofs.library_lemmas.Steps.{each_in_turn}
+use Rattle.engine_laws.proofs.Walking.{each_in_turn}
 use Rattle.engine_laws.proofs.library_lemmas.Told.{Answers, SameNotices, messages_more, one_more, refuses, replies, same_notices, stray_others, stray_own, told_others, told_own}
 use Rattle.ring_links.specs.Ends.{HeadView, TailView}
 use Rattle.session_book.specs.Book.{Book}

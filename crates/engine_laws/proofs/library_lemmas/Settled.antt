@@ -16,7 +16,7 @@ use Rattle.lease_words.specs.Views.{EngineView, LibraryView, TableRef, engine_at
 use Rattle.lease_words.specs.declared.view.LibraryKnows.{LibraryKnows}
 use Rattle.library_desk.specs.declared.desk.LibraryDesk.{LibraryDesk}
 use Rattle.engine_laws.specs.libraries.Sends.{AreLogged, AreTaken}
-use Rattle.engine_laws.proofs.library_lemmas.Steps.{each_in_turn}
+use Rattle.engine_laws.proofs.Walking.{each_in_turn}
 use Rattle.session_book.specs.Records.{Pending}
 use Rattle.switchboard.specs.Board.{Board, book_at}
 use Rattle.switchboard.specs.Going.{GoesOnTo}

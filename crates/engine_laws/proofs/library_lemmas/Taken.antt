@@ -31,7 +31,8 @@ use Rattle.library_desk.specs.declared.serving.LibTurn.TheVariants.{Answered, En
 use Rattle.engine_laws.specs.libraries.Sends.{AreTaken, LanesAreTaken}
 use Rattle.engine_laws.proofs.library_lemmas.Lanes.{all_shown, lanes_gathered, lanes_stay, last_further, last_raised, last_taken_back, nothing_found}
 use Rattle.engine_laws.proofs.library_lemmas.Sent.{BooksKeepSends, KeepsSends, Laws as SentLaws, one_goes_on, run_keeps}
-use Rattle.engine_laws.proofs.library_lemmas.Steps.{IsKept, each_in_turn}
+use Rattle.engine_laws.proofs.Walking.{each_in_turn}
+use Rattle.engine_laws.proofs.library_lemmas.Steps.{IsKept}
 use Rattle.message_log.specs.declared.entry.OutEntry.{OutEntry}
 use Rattle.session_book.specs.Acts.{after_request}
 use Rattle.session_book.specs.Book.{Book, Desk}

@@ -1,21 +1,22 @@
 -- What holds of the desk of libraries before a step of a turn holds behind it, where it stays as the desk of leases goes on and as libraries are served.
-use Rattle.std.proofs.Common.{◌≡◌, inl, inr, ℕ, ◌+◌, ◌≤◌, List, [], length, refl, ap, subst, sym, arith}
-use Rattle.std.specs.Prelude.{slice_index_or}
+use Rattle.std.proofs.Common.{◌≡◌, inl, inr, ℕ, ◌+◌, ◌≤◌, List, length, refl, ap, subst, sym, arith}
 use Rattle.engine_end.specs.Finishing.{GathersAll}
 use Rattle.engine_loop.specs.Engines.{until_of}
-use Rattle.engine_loop.specs.Turns.{AcceptsNext, AtWire, DialsSession, GivesTurn, HandsOut, MakesTurn, NotesSession, PublishesSession, Reading, ReadsIfStands, ServesOne, Serving, TakesTurn, TicksSession, WritesAll, at_wire, reading_of, serving_of, with_moment}
+use Rattle.engine_laws.proofs.Walking.{each_in_turn, turn_made as makes, turn_taken as takes, turn_walked}
+use Rattle.engine_laws.specs.walks.Walks as walk
+use Rattle.engine_laws.specs.walks.Walks.{QuietStep, TurnStep}
+use Rattle.engine_loop.specs.Turns.{AcceptsNext, AtWire, DialsSession, HandsOut, MakesTurn, NotesSession, PublishesSession, Reading, ReadsIfStands, ServesOne, Serving, TakesTurn, TicksSession, WritesAll}
 use Rattle.engine_loop.specs.declared.engine.Engine.{Engine}
 use Rattle.engine_loop.specs.declared.records.Taken.{Taken}
 use Rattle.engine_loop.specs.declared.records.Turn.{Turn}
 use Rattle.gate_io.specs.Wire.{Link}
 use Rattle.gate_io.specs.declared.wires.Accepted.{Accepted}
 use Rattle.lease_core.specs.declared.record.Record.{Record}
-use Rattle.lease_desk.specs.Desk.{InTurn}
 use Rattle.lease_desk.specs.declared.desk.LeaseDesk.{LeaseDesk}
 use Rattle.library_desk.specs.Serving.{Serves}
 use Rattle.library_desk.specs.declared.desk.LibraryDesk.{LibraryDesk}
 use Rattle.library_desk.specs.declared.serving.LibTurn.{LibTurn}
-use Rattle.engine_laws.proofs.library_lemmas.Steps.{IsKept, accepted_as, dialled_as, each_in_turn, gathered_in_turn, read, ticked, written_in_turn}
+use Rattle.engine_laws.proofs.library_lemmas.Steps.{IsKept, accepted_as, dialled_as, gathered_in_turn, read, ticked, written_in_turn}
 use Rattle.switchboard.specs.Board.{book_at}
 use Rattle.wire_desk.specs.Places.{open_places}
 use Rattle.wire_desk.specs.Steps.{written_so_far}
@@ -34,9 +35,6 @@ module _ (Holds : LibraryDesk → Type 0) (R : LeaseDesk → LeaseDesk → Type 
   same_sessions : (old new : Engine) → new.sessions ≡ old.sessions → Stays old new
   same_sessions old new same holds = subst Holds (sym same) holds
 
-  engine_in_turn : (Step : ℕ → Engine → Engine → Type 0) (count : ℕ) (old new : Engine) → ((i : ℕ) (a b : Engine) → Step i a b → Stays a b) → InTurn Step count old new → Stays old new
-  engine_in_turn Step count old new each steps = each_in_turn Step Stays stays_itself step_further each count old new steps
-
   -- the desk of leases alone changes
   desk_alone : (old new : Engine) → R old.sessions.desk new.sessions.desk → new.sessions ≡ record (old.sessions) { desk = new.sessions.desk } → Stays old new
   desk_alone old new goes rest = goes_on old.sessions new.sessions goes rest
@@ -46,7 +44,8 @@ module _ (Holds : LibraryDesk → Type 0) (R : LeaseDesk → LeaseDesk → Type 
 
   pub records_handed_out : (old new : Engine) (records : List Record) → HandsOut old new records → Stays old new
   records_handed_out old new records is =
-      step_further old is.noted new (engine_in_turn NotesSession (length old.sessions.desk.board.sessions) old is.noted session_noted is.notes) (same_sessions is.noted new (ap (λ (e : Engine). e.sessions) is.rest))
+      step_further old is.noted new (each_in_turn NotesSession Stays stays_itself step_further session_noted (length old.sessions.desk.board.sessions) old is.noted is.notes)
+      (same_sessions is.noted new (ap (λ (e : Engine). e.sessions) is.rest))
 
   module _ (g : IsKept R) where
     next_accepted : (answer : Accepted) (old new : AtWire) → AcceptsNext answer old new → Stays old.engine new.engine
@@ -77,12 +76,6 @@ module _ (Holds : LibraryDesk → Type 0) (R : LeaseDesk → LeaseDesk → Type 
         desk_alone old new (written_in_turn R g places (length places) (written_so_far old.sessions.desk old.lines.unkept.items links_old 0)
         (written_so_far new.sessions.desk old.lines.unkept.items links_new bytes) is.writes) (ap (λ (e : Engine). e.sessions) is.rest)
 
-    turn_given : (old new : AtWire) (taken : Taken) (turn : Turn) → GivesTurn old new taken turn → Stays old.engine new.engine
-    turn_given old new taken turn is =
-        let gives = is.gives in
-        step_further old.engine gives.published new.engine (engine_in_turn PublishesSession (length old.engine.sessions.desk.board.sessions) old.engine gives.published session_published gives.publishes)
-        (all_written old.links new.links gives.published new.engine turn.written gives.writes)
-
     -- each session is gathered, one after another
     pub all_gathered : (at until : ℕ) (old : LibraryDesk) (gathered : LeaseDesk) → GathersAll at until old.desk gathered → Holds old → Holds (record old { desk = gathered })
     all_gathered at until old gathered gathers holds =
@@ -92,26 +85,21 @@ module _ (Holds : LibraryDesk → Type 0) (R : LeaseDesk → LeaseDesk → Type 
       one_served : (i : ℕ) (old new : Serving) → ServesOne (i + 1) old new → Stays old.engine new.engine
       one_served i old new is = serves (i + 1) old.engine.moment (until_of old.engine) old.engine.sessions new.engine.sessions is.turn (omega arith) is.serves
 
+      quiet_step : (old new : AtWire) → QuietStep old new → Stays old.engine new.engine
+      quiet_step _ _ (walk.read k door old new is) = one_read k old new is
+      quiet_step _ _ (walk.ticked s door links old new is) = session_ticked s old new is
+      quiet_step _ _ (walk.served i door links old new is) = one_served i old new is
+      quiet_step _ _ (walk.noted s door links old new is) = session_noted s old new is
+      quiet_step _ _ (walk.published s door links old new is) = session_published s old new is
+      quiet_step _ _ (walk.written door links_old links_new old new bytes is) = all_written links_old links_new old new bytes is
+
+      step : (old new : AtWire) → TurnStep old new → Stays old.engine new.engine
+      step _ _ (walk.accepted answer old new is) = next_accepted answer old new is
+      step _ _ (walk.dialled s old new is) = session_dialled s old new is
+      step _ _ (walk.quiet old new is) = quiet_step old new is
+
       pub turn_taken : (reading : ℕ) (old new : AtWire) (taken : Taken) → TakesTurn reading old new taken → Stays old.engine new.engine
-      turn_taken reading old new taken is =
-          let begun = with_moment reading old.engine in
-          let accepted = is.accepted in
-          let dialled = is.dialled in
-          let places = open_places dialled.engine.lines in
-          step_further begun accepted.engine new.engine (next_accepted taken.accepted (at_wire begun old.door old.links) accepted is.accepts)
-          (step_further accepted.engine dialled.engine new.engine
-          (each_in_turn DialsSession (λ (a b : AtWire). Stays a.engine b.engine) (λ a. stays_itself a.engine) (λ a b c. step_further a.engine b.engine c.engine) session_dialled
-          (length accepted.engine.sessions.desk.board.sessions) accepted dialled is.dials)
-          (step_further dialled.engine is.read new.engine
-          (each_in_turn (λ i. ReadsIfStands (slice_index_or places i 0)) (λ (a b : Reading). Stays a.engine b.engine) (λ a. stays_itself a.engine)
-          (λ a b c. step_further a.engine b.engine c.engine) (λ i a b. one_read (slice_index_or places i 0) a b) (length places) (reading_of dialled.engine dialled.links [])
-          (reading_of is.read new.links taken.reads) is.reads)
-          (step_further is.read is.ticked new.engine (engine_in_turn TicksSession (length is.read.sessions.desk.board.sessions) is.read is.ticked session_ticked is.ticks)
-          (step_further is.ticked is.served new.engine
-          (each_in_turn (λ i. ServesOne (i + 1)) (λ (a b : Serving). Stays a.engine b.engine) (λ a. stays_itself a.engine) (λ a b c. step_further a.engine b.engine c.engine)
-          one_served (length is.ticked.sessions.ends.items) (serving_of is.ticked []) (serving_of is.served taken.libs) is.serves)
-          (engine_in_turn NotesSession (length is.served.sessions.desk.board.sessions) is.served new.engine session_noted is.notes)))))
+      turn_taken reading old new taken is = turn_walked Stays stays_itself step_further step _ new (takes reading old new taken is)
 
       pub turn_made : (reading : ℕ) (old new : AtWire) (turn : Turn) → MakesTurn reading old new turn → Stays old.engine new.engine
-      turn_made reading old new turn is =
-          step_further old.engine is.middle.engine new.engine (turn_taken reading old is.middle is.taken is.takes) (turn_given is.middle new is.taken turn is.gives)
+      turn_made reading old new turn is = turn_walked Stays stays_itself step_further step _ new (makes reading old new turn is)

@@ -29,7 +29,8 @@ use Rattle.engine_laws.proofs.library_lemmas.Ends.{ends_change}
 use Rattle.engine_laws.proofs.library_lemmas.Fed as fed
 use Rattle.engine_laws.proofs.library_lemmas.Going.{Keeps, Laws as GoingLaws, gathering_keeps, keeps_further, keeps_itself, run_keeps, taking_back_keeps}
 use Rattle.engine_laws.proofs.library_lemmas.Holdings.{JournalLaws, below_further, owned_below}
-use Rattle.engine_laws.proofs.library_lemmas.Steps.{IsKept, each_in_turn, small_in_turn}
+use Rattle.engine_laws.proofs.Walking.{each_in_turn, small_in_turn}
+use Rattle.engine_laws.proofs.library_lemmas.Steps.{IsKept}
 use Rattle.ring_links.specs.Ends.{HeadView, TailView}
 use Rattle.switchboard.specs.Board.{Board, book_at}
 use Rattle.switchboard.specs.Going.{GoesOnTo}

@@ -1,5 +1,6 @@
 -- Whatever happens, of a dialled connection it stays so what is kept of the answer to its Logon, where no piece of it is handed out and no message is heard.
 use Rattle.std.proofs.Common.{◌≡◌, ◌≢◌, inl, inr, ℕ, ◌<◌, ◌++◌, true, false, List, [], ◌∷◌, get_or, length, set, Option, None, Some, refl, sym, ap, subst, ◌∙◌, arith}
+use Rattle.std.proofs.lemmas.Bool.{cases_eq as same_or_other}
 use Rattle.std.proofs.Math.ListN.{get_or-append}
 use Rattle.std.proofs.lemmas.List.{get_or-set_other, get_or-set_same, length-set}
 use Rattle.std.proofs.lemmas.Option.{same_Some}
@@ -20,7 +21,7 @@ use Rattle.switchboard.specs.Happenings.{BindsTo, BookChanges, ConnectionChanges
 use Rattle.switchboard.specs.Ready.{IsReady}
 use Rattle.switchboard.specs.Sound.{IsPlaced, IsPlugged, bound_of}
 use Rattle.engine_laws.proofs.text_lemmas.Said.{ticking_phase, timeout_phase, word_phase}
-use Rattle.engine_laws.proofs.text_lemmas.Standing.{same_or_other, none_is}
+use Rattle.engine_laws.proofs.text_lemmas.Standing.{none_is}
 use Rattle.engine_laws.specs.texts.Answered.{DialledAreSoWith, IsDialledSo, answers_logon}
 
 -- how one connection goes on: what is kept of an answer stays, what was handed out of it stays so, it stays bound, and where it stands it did

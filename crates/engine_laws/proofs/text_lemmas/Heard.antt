@@ -2,7 +2,7 @@
 use Rattle.std.proofs.Common.{◌≡◌, ◌≢◌, inl, inr, ℕ, ◌<◌, ◌++◌, Bool, true, false, List, [], ◌∷◌, length, Option, None, Some, refl, sym, ap, subst, ◌∙◌}
 use Rattle.std.specs.List.{All}
 use Rattle.std.specs.Prelude.{◌==◌, if◌then◌else◌}
-use Rattle.std.proofs.lemmas.Bool.{eq-eqb, ne_eqb}
+use Rattle.std.proofs.lemmas.Bool.{cases_eq as same_or_other, eq-eqb, ne_eqb}
 use Rattle.std.proofs.lemmas.List.{append-nil}
 use Rattle.std.proofs.lemmas.List.Elements.{All-cons, All-head, All-nil, All-tail}
 use Rattle.std.proofs.lemmas.Option.{same_Some}
@@ -31,7 +31,7 @@ use Rattle.switchboard.specs.Ready.{IsReady}
 use Rattle.switchboard.specs.Sound.{IsPlaced, IsPlugged}
 use Rattle.engine_laws.proofs.text_lemmas.Dialled.{AllLast, IsStill, Lasts, StillLaws, beside, connection_phase, going, lasts_itself, line_more, none_names, now_at, only_one_names, other_phase, so_on, still_last, still_one, still_so}
 use Rattle.engine_laws.proofs.text_lemmas.Said.{acts_phase, answered_on, said}
-use Rattle.engine_laws.proofs.text_lemmas.Standing.{below_or_not, last_at, last_is, same_or_other}
+use Rattle.engine_laws.proofs.text_lemmas.Standing.{below_or_not, last_at, last_is}
 use Rattle.engine_laws.specs.texts.Answered.{DialledAreSoWith, IsDialledSo, answers_logon, nothing_in_hand}
 
 -- the bodies of pieces that are handed out one behind another

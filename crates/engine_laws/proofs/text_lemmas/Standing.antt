@@ -1,5 +1,6 @@
 -- Whatever happens a connection that has ended stays as it is, and text is made of no item but where texts are prepared.
 use Rattle.std.proofs.Common.{◌≡◌, ◌≢◌, inl, inr, ℕ, zero, suc, ◌+◌, ◌<◌, ◌≤◌, ◌++◌, List, [], ◌∷◌, get_or, length, set, true, false, Option, None, Some, refl, sym, ap, subst, ◌∙◌, arith}
+use Rattle.std.proofs.lemmas.Bool.{cases_eq as same_or_other}
 use Rattle.std.specs.Prelude.{◌⊎◌, IsNone, unwrap_or}
 use Rattle.std.proofs.Math.ListN.{get_or-append}
 use Rattle.std.proofs.Math.Seq.{get_or-append_seam}
@@ -25,12 +26,6 @@ use Rattle.switchboard.specs.Happenings.{BindsTo, BookChanges, ConnectionChanges
 use Rattle.switchboard.specs.Ready.{IsReady}
 use Rattle.switchboard.specs.Sound.{IsPlaced, IsPlugged}
 use Rattle.engine_laws.specs.texts.Taken.{FirstsComeAlone, HasOneTextAtMost}
-
-pub same_or_other : (i j : ℕ) → (i ≡ j) ⊎ (i ≢ j)
-same_or_other zero zero = inl refl
-same_or_other zero (suc j) = inr (λ e. absurd (omega arith))
-same_or_other (suc i) zero = inr (λ e. absurd (omega arith))
-same_or_other (suc i) (suc j) = elim (same_or_other i j) [ inl e ↦ inl (ap suc e) | inr n ↦ inr (λ e. n (omega arith)) ]
 
 pub below_or_not : (k n : ℕ) → (k < n) ⊎ (n ≤ k)
 below_or_not k zero = inr (omega arith)

@@ -1,62 +1,36 @@
 -- What a session does in a turn, what follows from the wire's answers to reads, and what is done for libraries: connections that have ended stay as they are, and firsts come alone.
-use Rattle.std.proofs.Common.{◌≡◌, inl, inr, ℕ, zero, suc, Bool, true, false, List, [], ◌∷◌, ◌++◌, length, Option, None, Some, Result, Ok, Err, refl, sym, ap, subst, ◌∙◌}
+use Rattle.std.proofs.Common.{◌≡◌, ℕ, Bool, true, false, List, [], ◌∷◌, ◌++◌, length, Option, None, Some, Result, Ok, Err, refl, sym, ap, subst, ◌∙◌}
 use Rattle.std.proofs.lemmas.List.{length-set}
-use Rattle.std.proofs.lemmas.List.Elements.{All-cons, All-nil, All-weaker}
+use Rattle.std.proofs.lemmas.List.Elements.{All-cons, All-weaker}
 use Rattle.std.specs.List.{All}
-use Rattle.std.specs.Prelude.{◌<◌, if◌then◌else◌, nat_lt, slice_index_or}
+use Rattle.std.specs.Prelude.{◌<◌, if◌then◌else◌, slice_index_or}
 use Rattle.std.specs.Result.{result_ok}
 use Rattle.engine_end.specs.Finishing.{GathersAll}
+use Rattle.engine_laws.proofs.Endings.{ending_is, lapsing_is, one_is}
+use Rattle.engine_laws.proofs.Walking.{each_in_turn, read as reads, walked}
+use Rattle.engine_laws.specs.walks.Walks as walk
+use Rattle.engine_laws.specs.walks.Walks.{ReadMove, ReadSoFar}
 use Rattle.fix_fields.specs.Reading.{fields_of}
-use Rattle.fix_frame.specs.Cut.{CutPiece, garbled, good}
 use Rattle.gate_io.specs.declared.wires.WireGot.{WireGot}
-use Rattle.gate_io.specs.declared.wires.WireGot.TheVariants as got
 use Rattle.lease_core.specs.State.{state_of}
 use Rattle.lease_core.specs.declared.entry.Entry.{Entry}
-use Rattle.lease_desk.specs.Desk.{Gathers, InTurn, bodies_of}
+use Rattle.lease_desk.specs.Desk.{Gathers, bodies_of}
 use Rattle.lease_desk.specs.declared.desk.LeaseDesk.{LeaseDesk}
 use Rattle.library_desk.specs.Happening.{IsOfLibraries, RunsFor}
 use Rattle.session_book.specs.Records.{Pending}
 use Rattle.session_core.specs.declared.causes.Cause.{Cause}
-use Rattle.session_core.specs.declared.causes.Cause.TheVariants.{End, ReadFault, Silent}
 use Rattle.session_desk.specs.Steps.{GreetsAs, Hears, Ticks, binding, ending, greeting, is_answer, lapsing, parting}
 use Rattle.session_desk.specs.declared.routes.Routes.{Routes}
 use Rattle.switchboard.specs.Board.{Board, book_at, connection_at, place_at}
-use Rattle.switchboard.specs.Happenings.{Happening, Happens, Reaches, answers, binds, binds_and_ends, ends_bound, ends_unbound, gives, lapses, receives, requests, reserves, shows, takes, ticks, times_out}
+use Rattle.switchboard.specs.Happenings.{Happening, Happens, Reaches, answers, binds, binds_and_ends, ends_bound, ends_unbound, gives, receives, requests, reserves, shows, takes, ticks, times_out}
 use Rattle.switchboard.specs.Ready.{IsReady}
 use Rattle.engine_laws.proofs.text_lemmas.Standing.{IsPlain, Keeps, Laws, keeps_further, keeps_itself, keeps_one, keeps_plain, ran, stands_at}
-use Rattle.wire_desk.specs.Steps.{Handles, HandlesAll, HandlesBody, HandlesNext, LeavesIfTardy, PartsBy, Reads, ReadsAs, Sessions, StopsAt, sessions_of}
-
--- steps of one kind, one after another, of something
-pub each_in_turn : {T : Type 0} (Step : ℕ → T → T → Type 0) (Holds : T → T → Type 0) → ((t : T) → Holds t t) → ((a b c : T) → Holds a b → Holds b c → Holds a c) → ((i : ℕ) (a b : T) → Step i a b → Holds a b)
-    → (n : ℕ) (old new : T) → InTurn Step n old new → Holds old new
-each_in_turn Step Holds itself further each zero old new same = subst (λ t. Holds old t) (sym same) (itself old)
-each_in_turn Step Holds itself further each (suc n) old new steps =
-    further old steps.0 new (each_in_turn Step Holds itself further each n old steps.0 steps.1) (each n steps.0 new steps.2)
+use Rattle.wire_desk.specs.Steps.{Reads, Sessions}
 
 module _ (before : ℕ → List Entry) (g : Laws before) where
   -- the happening is plain, and so are all
   abbrev Plain : Happening → Type 0
   Plain happening = IsPlain before g happening
-
-  none_plain : All Plain []
-  none_plain = All-nil Plain
-
-  one_plain : (happening : Happening) → Plain happening → All Plain (happening ∷ [])
-  one_plain happening is = All-cons Plain happening [] is none_plain
-
-  ending_plain : (s : ℕ) (place : Option ℕ) (end : Option Cause) → All Plain (ending s place end)
-  ending_plain s None None = none_plain
-  ending_plain s None (Some cause) = none_plain
-  ending_plain s (Some k) None = none_plain
-  ending_plain s (Some k) (Some cause) = one_plain (ends_bound s k cause) tt
-
-  lapsing_at_once : (is : Bool) (s : ℕ) → All Plain (if is then [] else lapses s ∷ [])
-  lapsing_at_once true s = none_plain
-  lapsing_at_once false s = one_plain (lapses s) tt
-
-  lapsing_plain : (s : ℕ) (reserved : Option (ℕ × ℕ)) (now : ℕ) → All Plain (lapsing s reserved now)
-  lapsing_plain s None now = none_plain
-  lapsing_plain s (Some reserved) now = lapsing_at_once (nat_lt now reserved.1) s
 
   -- the board is kept so
   abbrev pub Kept : Board → Board → Type 0
@@ -80,7 +54,7 @@ module _ (before : ℕ → List Entry) (g : Laws before) where
   pub gathered : (s at until : ℕ) (old new : LeaseDesk) → Gathers s at until old new → Kept old.board new.board
   gathered s at until old new is =
       let shown = shows s is.word (bodies_of is.items) at until in
-      run (reserves s ∷ shown ∷ []) old.board new.board (All-cons Plain (reserves s) (shown ∷ []) tt (one_plain shown tt)) is.reaches
+      run (reserves s ∷ shown ∷ []) old.board new.board (All-cons Plain (reserves s) (shown ∷ []) tt (one_is Plain shown tt)) is.reaches
 
   pub all_gathered : (at until : ℕ) (old new : LeaseDesk) → GathersAll at until old new → Kept old.board new.board
   all_gathered at until old new steps =
@@ -101,7 +75,7 @@ module _ (before : ℕ → List Entry) (g : Laws before) where
       let small : s < length behind.sessions = subst (λ n. s < n) (sym (ap length receives_it.goes_on.others.sessions ∙ length-set board.sessions s _)) receives_it.goes_on.within in
       further old.board board new.board (gathered s at until old is.gathered is.gathers)
       (further board behind new.board (plain (receives s k body at) board behind tt receives_it)
-      (answered (is_answer end) k (ending s (Some k) end) behind new.board (λ ready. stands_at before s k behind ready small placed) (ending_plain s (Some k) end) is.follows.1.1))
+      (answered (is_answer end) k (ending s (Some k) end) behind new.board (λ ready. stands_at before s k behind ready small placed) (ending_is Plain s (Some k) end (λ k cause. tt)) is.follows.1.1))
 
   bound_by : (s k : ℕ) (body : List ℕ) (at : ℕ) (end : Option Cause) (old new : Board) → Happens (binding s k body at end) old new → Kept old new
   bound_by s k body at None old new is = plain (binds s k body at) old new tt is
@@ -119,65 +93,29 @@ module _ (before : ℕ → List Entry) (g : Laws before) where
       let reserved = (state_of (book_at board s).entries).reserved in
       let last = ending s (place_at is.lapsed s) end in
       further old.board board new.board (gathered s at until old is.gathered is.gathers)
-      (further board is.lapsed new.board (run (lapsing s reserved at) board is.lapsed (lapsing_plain s reserved at) is.lapses)
-      (run (ticks s at ∷ last) is.lapsed new.board (All-cons Plain (ticks s at) last tt (ending_plain s (place_at is.lapsed s) end)) is.follows))
+      (further board is.lapsed new.board (run (lapsing s reserved at) board is.lapsed (lapsing_is Plain s reserved at tt) is.lapses)
+      (run (ticks s at ∷ last) is.lapsed new.board (All-cons Plain (ticks s at) last tt (ending_is Plain s (place_at is.lapsed s) end (λ k cause. tt))) is.follows))
 
   pub parted : (session : Option ℕ) (k : ℕ) (cause : Cause) (old new : Board) → Happens (parting session k cause) old new → Kept old new
   parted None k cause old new is = plain (ends_unbound k cause) old new tt is
   parted (Some s) k cause old new is = plain (ends_bound s k cause) old new tt is
 
-  -- what one step makes of the sessions
-  abbrev KeptOf : Sessions → Sessions → Type 0
-  KeptOf old new = Kept old.desk.board new.desk.board
+  -- a move as a connection is read
+  read_moved : (routes : Routes) (k at until : ℕ) (old new : ReadSoFar) → ReadMove routes k at until old new → Kept old.desk.board new.desk.board
+  read_moved routes k at until _ _ (walk.bytes_come bytes old new is) = plain (takes k bytes) old.board new.board tt is.0
+  read_moved routes k at until _ _ (walk.garbled_out size old new next is) = plain (gives k) old.board new.board tt is.0
+  read_moved routes k at until _ _ (walk.body_out body old new next is) = plain (gives k) old.board new.board tt is.0
+  read_moved routes k at until _ _ (walk.heard s body end old new named is) = heard s k body at until old.desk new.desk old.unkept new.unkept end is
+  read_moved routes k at until _ _ (walk.greeted body end old new unnamed is) =
+      greeted (greeting old.desk.board routes (result_ok (fields_of body))) k body at until old.desk new.desk old.unkept new.unkept end is
+  read_moved routes k at until _ _ (walk.none_out old new none is) = plain (gives k) old.board new.board tt is.0
+  read_moved routes k at until _ _ (walk.had_ended desk ended) = itself desk.board
+  read_moved routes k at until _ _ (walk.parted cause old new ends is) = parted (connection_at old.board k).session k cause old.board new.board is.0
 
-  same_of : (old new : Sessions) → new ≡ old → KeptOf old new
-  same_of old new same = unchanged old.desk.board new.desk.board (ap (λ (sessions : Sessions). sessions.desk.board) same)
-
-  body_handled : (session : Option ℕ) (routes : Routes) (k : ℕ) (body : List ℕ) (at until : ℕ) (old new : Sessions) → HandlesBody session routes k body at until old new → KeptOf old new
-  body_handled (Some s) routes k body at until old new is = heard s k body at until old.desk new.desk old.unkept new.unkept is.0 is.1
-  body_handled None routes k body at until old new is =
-      greeted (greeting old.desk.board routes (result_ok (fields_of body))) k body at until old.desk new.desk old.unkept new.unkept is.0 is.1
-
-  piece_handled : (piece : CutPiece) (routes : Routes) (k at until : ℕ) (old new : Sessions) → Handles piece routes k at until old new → KeptOf old new
-  piece_handled (garbled size) routes k at until old new same = same_of old new same
-  piece_handled (good body) routes k at until old new handles = body_handled (connection_at old.desk.board k).session routes k body at until old new handles
-
-  next_handled : (routes : Routes) (k at until : ℕ) (old new : Sessions) → HandlesNext routes k at until old new → KeptOf old new
-  next_handled routes k at until old new is =
-      further old.desk.board is.given.board new.desk.board (plain (gives k) old.desk.board is.given.board tt is.gives) (piece_handled is.piece routes k at until (sessions_of is.given old.unkept) new is.handles)
-
-  stopped : (k : ℕ) (old new : Sessions) → StopsAt k old new → KeptOf old new
-  stopped k old new stops = elim stops [
-    | inl ended ↦ same_of old new ended.1
-    | inr finds ↦ plain (gives k) old.desk.board new.desk.board tt finds.gives
-  ]
-
-  all_handled : (routes : Routes) (k at until : ℕ) (old new : Sessions) → HandlesAll routes k at until old new → KeptOf old new
-  all_handled routes k at until old new is =
-      further old.desk.board is.between.desk.board new.desk.board
-      (each_in_turn (λ i. HandlesNext routes k at until) KeptOf (λ sessions. itself sessions.desk.board) (λ a b c. further a.desk.board b.desk.board c.desk.board)
-      (λ i a b. next_handled routes k at until a b) is.count old is.between is.handles)
-      (stopped k is.between new is.stops)
-
-  parted_by : (k : ℕ) (cause : Cause) (old new : Sessions) → PartsBy k cause old new → KeptOf old new
-  parted_by k cause old new is = parted (connection_at old.desk.board k).session k cause old.desk.board new.desk.board is.parts
-
-  read_as : (answer : WireGot) (routes : Routes) (k : ℕ) (buffer : List ℕ) (at until : ℕ) (old new : Sessions) → ReadsAs answer routes k buffer at until old new → KeptOf old new
-  read_as (got.Bytes n) routes k buffer at until old new is =
-      further old.desk.board is.taken.board new.desk.board (plain (takes k _) old.desk.board is.taken.board tt is.takes) (all_handled routes k at until (sessions_of is.taken old.unkept) new is.handles)
-  read_as got.End routes k buffer at until old new is = parted_by k End old new is
-  read_as got.Failed routes k buffer at until old new is = parted_by k ReadFault old new is
-  read_as got.Blocked routes k buffer at until old new is = same_of old new is
-
-  tardy_left : (k at : ℕ) (old new : Sessions) → LeavesIfTardy k at old new → KeptOf old new
-  tardy_left k at old new leaves = elim leaves [
-    | inl tardy ↦ parted_by k (Silent (connection_at old.desk.board k).since) old new tardy.1
-    | inr same ↦ same_of old new same.1
-  ]
-
-  pub read : (answer : WireGot) (routes : Routes) (k : ℕ) (buffer : List ℕ) (at until : ℕ) (old new : Sessions) → Reads answer routes k buffer at until old new → KeptOf old new
+  pub read : (answer : WireGot) (routes : Routes) (k : ℕ) (buffer : List ℕ) (at until : ℕ) (old new : Sessions) → Reads answer routes k buffer at until old new → Kept old.desk.board new.desk.board
   read answer routes k buffer at until old new is =
-      further old.desk.board is.between.desk.board new.desk.board (read_as answer routes k buffer at until old is.between is.reads) (tardy_left k at is.between new is.tardy)
+      walked (ReadMove routes k at until) (λ a b. Kept a.desk.board b.desk.board) (λ a. itself a.desk.board) (λ a b c. further a.desk.board b.desk.board c.desk.board) (read_moved routes k at until) _ _
+      (reads routes k at until answer buffer old new is)
 
   -- what is done for libraries
   of_libraries_plain : (at : ℕ) (happening : Happening) → IsOfLibraries at happening → Plain happening

@@ -1,5 +1,6 @@
 -- The first half of a turn: of connections that have ended nothing changes, neither in the engine nor at the wire, and each one is listed that came or was.
 use Rattle.std.proofs.Common.{◌≡◌, ◌≢◌, inl, inr, ℕ, zero, suc, ◌+◌, ◌<◌, ◌≤◌, List, [], ◌∷◌, ◌++◌, length, Option, None, Some, refl, sym, ap, subst, ◌∙◌, arith}
+use Rattle.std.proofs.lemmas.Bool.{cases_eq as same_or_other}
 use Rattle.std.proofs.lemmas.List.{length_push}
 use Rattle.std.proofs.lemmas.List.Elements.{All-contains, Contains-append_cases, Contains-append_left, Contains-append_right, Contains-get_or, Contains-push, Contains-push_cases}
 use Rattle.std.specs.List.{Contains}
@@ -26,8 +27,9 @@ use Rattle.library_desk.specs.declared.shared.Shared.{Shared}
 use Rattle.switchboard.specs.Board.{Board, connection_at}
 use Rattle.switchboard.specs.Happenings.{Happens, accepts, dials}
 use Rattle.switchboard.specs.Ready.{IsReady}
-use Rattle.engine_laws.proofs.text_lemmas.Standing.{HasEnded, Laws, Rests, Stays, below_or_not, happened, last_at, same_or_other, stays_further, stays_itself}
-use Rattle.engine_laws.proofs.text_lemmas.Steps.{Kept, each_in_turn, gathered, ran_for, read, ticked, unchanged}
+use Rattle.engine_laws.proofs.text_lemmas.Standing.{HasEnded, Laws, Rests, Stays, below_or_not, happened, last_at, stays_further, stays_itself}
+use Rattle.engine_laws.proofs.Walking.{each_in_turn}
+use Rattle.engine_laws.proofs.text_lemmas.Steps.{Kept, gathered, ran_for, read, ticked, unchanged}
 use Rattle.wire_desk.specs.Dials.{DialsAs}
 use Rattle.wire_desk.specs.Lines.{IsNumbered, IsOpenPlace}
 use Rattle.wire_desk.specs.Places.{dialled_behind, open_places}

@@ -1,6 +1,6 @@
 -- The second half of a turn, and a whole one: each connection that has ended took its text, or its writing was cut short.
 use Rattle.std.proofs.Common.{◌≡◌, inl, inr, ℕ, zero, suc, ◌<◌, ◌≤◌, true, List, get_or, length, Option, None, Some, refl, sym, ap, subst, ◌∙◌, arith}
-use Rattle.std.proofs.lemmas.Bool.{and_parts}
+use Rattle.std.proofs.lemmas.Bool.{cases_eq as same_or_other, and_parts}
 use Rattle.std.proofs.lemmas.Grind.{get_or_default_zero}
 use Rattle.std.proofs.lemmas.List.{get_or-set_other, get_or-set_same, length-set}
 use Rattle.std.proofs.lemmas.List.Elements.{All-contains, Contains-append_cases, Contains-get_or, filter_passes}
@@ -28,8 +28,9 @@ use Rattle.session_core.specs.declared.causes.Cause.{Cause}
 use Rattle.switchboard.specs.Board.{Board, OutboxChanges, connection_at, no_connection, place_at}
 use Rattle.switchboard.specs.Ready.{IsReady}
 use Rattle.engine_laws.specs.texts.Taken.{FirstsComeAlone, IsCutShort, IsCutShortIn, IsWrittenIn, RestsIn, TookItsText, TookOrCutShort, TookTheirTexts, TookTheirTextsSoFar}
-use Rattle.engine_laws.proofs.text_lemmas.Standing.{HasEnded, Laws, same_or_other}
-use Rattle.engine_laws.proofs.text_lemmas.Steps.{all_gathered, each_in_turn}
+use Rattle.engine_laws.proofs.text_lemmas.Standing.{HasEnded, Laws}
+use Rattle.engine_laws.proofs.Walking.{each_in_turn}
+use Rattle.engine_laws.proofs.text_lemmas.Steps.{all_gathered}
 use Rattle.engine_laws.proofs.text_lemmas.Taking.{Goes, board_of, contains_or_not, counted_online, places_of, turn_taken}
 use Rattle.engine_laws.proofs.text_lemmas.Writing.{WroteAll, written_in_turn}
 use Rattle.wire_desk.specs.Lines.{standing, stands_at}

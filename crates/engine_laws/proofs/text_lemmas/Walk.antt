@@ -1,12 +1,16 @@
 -- Over each step of a turn what is kept of the answers to dialled connections' Logons stays so.
-use Rattle.std.proofs.Common.{◌≡◌, inl, inr, ℕ, ◌+◌, Bool, true, false, List, [], ◌∷◌, length, Option, None, Some, Result, Ok, Err, refl, sym, ap, subst}
-use Rattle.std.proofs.lemmas.List.Elements.{All-cons, All-nil, All-weaker}
-use Rattle.std.specs.Prelude.{if◌then◌else◌, nat_lt, slice_index_or}
+use Rattle.std.proofs.Common.{◌≡◌, inl, inr, ℕ, ◌+◌, List, [], ◌∷◌, length, Option, None, Some, Result, Ok, Err, refl, sym, ap, subst}
+use Rattle.std.proofs.lemmas.List.Elements.{All-cons, All-weaker}
 use Rattle.std.specs.List.{All}
 use Rattle.std.specs.Result.{result_ok}
 use Rattle.engine_end.specs.Finishing.{GathersAll}
+use Rattle.engine_laws.proofs.Endings.{ending_is, lapsing_is, one_is, parting_is}
+use Rattle.engine_laws.proofs.Walking.{each_in_turn, read as reads, turn_given as gives_walk, turn_made as turn_walk, turn_taken as takes_walk, turn_walked, walked, written_in_turn as all_wrote}
+use Rattle.engine_laws.specs.Account.{Progress, cutting, done, handling}
+use Rattle.engine_laws.specs.walks.Walks as walk
+use Rattle.engine_laws.specs.walks.Walks.{QuietStep, ReadMove, ReadSoFar, TurnStep, Walk, WriteMove}
 use Rattle.engine_loop.specs.Engines.{until_of}
-use Rattle.engine_loop.specs.Turns.{AcceptsNext, AtWire, DialsSession, GivesTurn, HandsOut, MakesTurn, NotesSession, PublishesSession, Reading, ReadsIfStands, ServesOne, Serving, TakesTurn, TicksSession, WritesAll, at_wire, reading_of, serving_of, with_moment}
+use Rattle.engine_loop.specs.Turns.{AcceptsNext, AtWire, DialsSession, GivesTurn, HandsOut, MakesTurn, NotesSession, PublishesSession, Reading, ReadsIfStands, ServesOne, Serving, TakesTurn, TicksSession, WritesAll}
 use Rattle.engine_loop.specs.declared.engine.Engine.{Engine}
 use Rattle.engine_loop.specs.declared.records.Taken.{Taken}
 use Rattle.engine_loop.specs.declared.records.Turn.{Turn}
@@ -18,11 +22,10 @@ use Rattle.gate_io.specs.declared.dials.Dialled.TheVariants as dial
 use Rattle.gate_io.specs.declared.wires.Accepted.{Accepted}
 use Rattle.gate_io.specs.declared.wires.Accepted.TheVariants as accept
 use Rattle.gate_io.specs.declared.wires.WireGot.{WireGot}
-use Rattle.gate_io.specs.declared.wires.WireGot.TheVariants as got
 use Rattle.lease_core.specs.State.{state_of}
 use Rattle.lease_core.specs.declared.entry.Entry.{Entry}
 use Rattle.lease_core.specs.declared.record.Record.{Record}
-use Rattle.lease_desk.specs.Desk.{Gathers, InTurn}
+use Rattle.lease_desk.specs.Desk.{Gathers}
 use Rattle.lease_desk.specs.declared.desk.LeaseDesk.{LeaseDesk}
 use Rattle.library_desk.specs.Happening.{IsOfLibraries, RunsFor}
 use Rattle.library_desk.specs.Serving.{Serves}
@@ -30,43 +33,17 @@ use Rattle.library_desk.specs.declared.desk.LibraryDesk.{LibraryDesk}
 use Rattle.library_desk.specs.declared.serving.LibTurn.{LibTurn}
 use Rattle.session_book.specs.Records.{Pending}
 use Rattle.session_core.specs.declared.causes.Cause.{Cause}
-use Rattle.session_core.specs.declared.causes.Cause.TheVariants.{End, ReadFault, Silent}
 use Rattle.session_desk.specs.Steps.{GreetsAs, Ticks, binding, ending, greeting, lapsing, parting}
 use Rattle.session_desk.specs.declared.routes.Routes.{Routes}
 use Rattle.switchboard.specs.Board.{Board, book_at, connection_at, place_at}
-use Rattle.switchboard.specs.Happenings.{Happening, Happens, Reaches, binds, binds_and_ends, ends_bound, ends_unbound, lapses, prepares, requests, reserves, takes, ticks, times_out, writes}
+use Rattle.switchboard.specs.Happenings.{Happening, Happens, Reaches, binds, binds_and_ends, ends_unbound, prepares, requests, reserves, takes, ticks, times_out, writes}
 use Rattle.engine_laws.proofs.text_lemmas.Dialled.{IsStill, StillLaws}
 use Rattle.engine_laws.proofs.text_lemmas.Heard.{HeldBy, accepted, dialled_one, garbled_out, gathered, heard, none_handed_out, one_handed_out, one_in_hand, stilled, unnamed_out}
-use Rattle.engine_laws.proofs.text_lemmas.Steps.{each_in_turn}
 use Rattle.engine_laws.specs.texts.Answered.{nothing_in_hand}
 use Rattle.wire_desk.specs.Dials.{DialsAs}
 use Rattle.wire_desk.specs.Places.{open_places}
-use Rattle.wire_desk.specs.Steps.{AcceptsAs, Handles, HandlesAll, HandlesBody, HandlesNext, LeavesIfTardy, PartsBy, PartsIfNeeded, PreparesTo, Reads, ReadsAs, Sessions, StopsAt, WritesAt, WritesInTurn, WritesSome, WrittenSoFar, cause_behind, sessions_of, written_so_far}
+use Rattle.wire_desk.specs.Steps.{AcceptsAs, Reads, Sessions, WritesInTurn, WrittenSoFar, written_so_far}
 use Rattle.wire_desk.specs.declared.dialling.Dialler.{Dialler}
-
-none_still : All IsStill []
-none_still = All-nil IsStill
-
-one_still : (happening : Happening) → IsStill happening → All IsStill (happening ∷ [])
-one_still happening is = All-cons IsStill happening [] is none_still
-
-ending_still : (s : ℕ) (place : Option ℕ) (end : Option Cause) → All IsStill (ending s place end)
-ending_still s None None = none_still
-ending_still s None (Some cause) = none_still
-ending_still s (Some k) None = none_still
-ending_still s (Some k) (Some cause) = one_still (ends_bound s k cause) tt
-
-lapsing_at_once : (is : Bool) (s : ℕ) → All IsStill (if is then [] else lapses s ∷ [])
-lapsing_at_once true s = none_still
-lapsing_at_once false s = one_still (lapses s) tt
-
-lapsing_still : (s : ℕ) (reserved : Option (ℕ × ℕ)) (now : ℕ) → All IsStill (lapsing s reserved now)
-lapsing_still s None now = none_still
-lapsing_still s (Some reserved) now = lapsing_at_once (nat_lt now reserved.1) s
-
-parting_still : (session : Option ℕ) (k : ℕ) (cause : Cause) → IsStill (parting session k cause)
-parting_still None k cause = tt
-parting_still (Some s) k cause = tt
 
 of_libraries_still : (at : ℕ) (happening : Happening) → IsOfLibraries at happening → IsStill happening
 of_libraries_still at (times_out s w bodies moment until) is = tt
@@ -89,7 +66,7 @@ module _ (before : ℕ → List Entry) (g : StillLaws before) where
   ran happenings old new all reached was = stilled before g nothing_in_hand happenings old new all reached was
 
   one : (happening : Happening) (old new : Board) → IsStill happening → Happens happening old new → Keeps old new
-  one happening old new still is was = ran (happening ∷ []) old new (one_still happening still) (new, (is, refl)) was
+  one happening old new still is was = ran (happening ∷ []) old new (one_is IsStill happening still) (new, (is, refl)) was
 
   one_gathered : (s at until : ℕ) (old new : LeaseDesk) → Gathers s at until old new → Keeps old.board new.board
   one_gathered s at until old new is was = gathered before g nothing_in_hand s at until old new is was
@@ -113,99 +90,49 @@ module _ (before : ℕ → List Entry) (g : StillLaws before) where
   ticked s at until old new end is was =
       let reserved = (state_of (book_at is.gathered.board s).entries).reserved in
       let last = ending s (place_at is.lapsed s) end in
-      ran (ticks s at ∷ last) is.lapsed new.board (All-cons IsStill (ticks s at) last tt (ending_still s (place_at is.lapsed s) end)) is.follows
-      (ran (lapsing s reserved at) is.gathered.board is.lapsed (lapsing_still s reserved at) is.lapses
+      ran (ticks s at ∷ last) is.lapsed new.board (All-cons IsStill (ticks s at) last tt (ending_is IsStill s (place_at is.lapsed s) end (λ k cause. tt))) is.follows
+      (ran (lapsing s reserved at) is.gathered.board is.lapsed (lapsing_is IsStill s reserved at tt) is.lapses
       (one_gathered s at until old is.gathered is.gathers was))
 
   parted : (session : Option ℕ) (k : ℕ) (cause : Cause) (old new : Board) → Happens (parting session k cause) old new → Keeps old new
-  parted session k cause old new is was = one (parting session k cause) old new (parting_still session k cause) is was
+  parted session k cause old new is was = one (parting session k cause) old new (parting_is IsStill session k cause tt (λ s. tt)) is was
 
-  abbrev KeepsOf : Sessions → Sessions → Type 0
-  KeepsOf old new = Keeps old.desk.board new.desk.board
+  -- a move as a connection is read: a piece that is handed out is in hand where it has a message
+  abbrev in_hand : ℕ → Progress → ℕ → List CutPiece
+  in_hand k done = nothing_in_hand
+  in_hand k cutting = nothing_in_hand
+  in_hand k (handling body) = one_in_hand k (good body)
 
-  same_of : (old new : Sessions) → new ≡ old → KeepsOf old new
-  same_of old new same = unchanged old.desk.board new.desk.board (ap (λ (sessions : Sessions). sessions.desk.board) same)
+  abbrev HeldSoFar : ℕ → ReadSoFar → Type 0
+  HeldSoFar k so_far = HeldBy before (in_hand k so_far.progress) so_far.desk.board
 
-  -- a piece that is in hand is handled
-  body_handled : (session : Option ℕ) (routes : Routes) (k : ℕ) (body : List ℕ) (at until : ℕ) (old new : Sessions) → (connection_at old.desk.board k).session ≡ session → HandlesBody session routes k body at until old new
-      → HeldBy before (one_in_hand k (good body)) old.desk.board → Held new.desk.board
-  body_handled (Some s) routes k body at until old new names is was = heard before g s k body at until old.desk new.desk old.unkept new.unkept is.0 is.1 was
-  body_handled None routes k body at until old new names is was =
-      greeted (greeting old.desk.board routes (result_ok (fields_of body))) k body at until old.desk new.desk old.unkept new.unkept is.0 is.1
-      (unnamed_out before g k (good body) old.desk.board names was)
+  read_moved : (routes : Routes) (k at until : ℕ) (old new : ReadSoFar) → ReadMove routes k at until old new → HeldSoFar k old → HeldSoFar k new
+  read_moved routes k at until _ _ (walk.bytes_come bytes old new is) was = one (takes k bytes) old.board new.board tt is.0 was
+  read_moved routes k at until _ _ (walk.garbled_out size old new next is) was = garbled_out before g k size new.board (one_handed_out before g k (garbled size) old.board new.board is.0 next was)
+  read_moved routes k at until _ _ (walk.body_out body old new next is) was = one_handed_out before g k (good body) old.board new.board is.0 next was
+  read_moved routes k at until _ _ (walk.heard s body end old new named is) was = heard before g s k body at until old.desk new.desk old.unkept new.unkept end is was
+  read_moved routes k at until _ _ (walk.greeted body end old new unnamed is) was =
+      greeted (greeting old.desk.board routes (result_ok (fields_of body))) k body at until old.desk new.desk old.unkept new.unkept end is (unnamed_out before g k (good body) old.desk.board unnamed was)
+  read_moved routes k at until _ _ (walk.none_out old new none is) was = none_handed_out before g k old.board new.board is.0 none was
+  read_moved routes k at until _ _ (walk.had_ended desk ended) was = was
+  read_moved routes k at until _ _ (walk.parted cause old new ends is) was = parted (connection_at old.board k).session k cause old.board new.board is.0 was
 
-  piece_handled : (piece : CutPiece) (routes : Routes) (k at until : ℕ) (old new : Sessions) → Handles piece routes k at until old new → HeldBy before (one_in_hand k piece) old.desk.board → Held new.desk.board
-  piece_handled (garbled size) routes k at until old new same was = same_of old new same (garbled_out before g k size old.desk.board was)
-  piece_handled (good body) routes k at until old new handles was = body_handled (connection_at old.desk.board k).session routes k body at until old new refl handles was
+  write_moved : (old new : LeaseDesk) → WriteMove old new → Keeps old.board new.board
+  write_moved _ _ (walk.made s k old new is) was = one (prepares s k) old.board new.board tt is.0 was
+  write_moved _ _ (walk.wrote k n old new is) was = one (writes k n) old.board new.board tt is.0 was
+  write_moved _ _ (walk.left k stop cause old new ends is) was = parted (connection_at old.board k).session k cause old.board new.board is.0 was
+  write_moved _ _ (walk.stayed old new board seat) was = unchanged old.board new.board board was
 
-  next_handled : (routes : Routes) (k at until : ℕ) (old new : Sessions) → HandlesNext routes k at until old new → KeepsOf old new
-  next_handled routes k at until old new is was =
-      piece_handled is.piece routes k at until (sessions_of is.given old.unkept) new is.handles
-      (one_handed_out before g k is.piece old.desk.board is.given.board is.gives is.is_next was)
+  read : (answer : WireGot) (routes : Routes) (k : ℕ) (buffer : List ℕ) (at until : ℕ) (old new : Sessions) → Reads answer routes k buffer at until old new → Keeps old.desk.board new.desk.board
+  read answer routes k buffer at until old new is =
+      walked (ReadMove routes k at until) (λ a b. HeldSoFar k a → HeldSoFar k b) (λ a so. so) (λ a b c one two so. two (one so)) (read_moved routes k at until) _ _ (reads routes k at until answer buffer old new is)
 
-  stopped : (k : ℕ) (old new : Sessions) → StopsAt k old new → KeepsOf old new
-  stopped k old new stops was = elim stops [
-    | inl ended ↦ same_of old new ended.1 was
-    | inr finds ↦ none_handed_out before g k old.desk.board new.desk.board finds.gives finds.none was
-  ]
-
-  all_handled : (routes : Routes) (k at until : ℕ) (old new : Sessions) → HandlesAll routes k at until old new → KeepsOf old new
-  all_handled routes k at until old new is was =
-      stopped k is.between new is.stops
-      (each_in_turn (λ i. HandlesNext routes k at until) KeepsOf (λ sessions so. so) (λ a b c one two so. two (one so)) (λ i a b. next_handled routes k at until a b) is.count old is.between is.handles was)
-
-  parted_by : (k : ℕ) (cause : Cause) (old new : Sessions) → PartsBy k cause old new → KeepsOf old new
-  parted_by k cause old new is was = parted (connection_at old.desk.board k).session k cause old.desk.board new.desk.board is.parts was
-
-  read_as : (answer : WireGot) (routes : Routes) (k : ℕ) (buffer : List ℕ) (at until : ℕ) (old new : Sessions) → ReadsAs answer routes k buffer at until old new → KeepsOf old new
-  read_as (got.Bytes n) routes k buffer at until old new is was =
-      all_handled routes k at until (sessions_of is.taken old.unkept) new is.handles (one (takes k _) old.desk.board is.taken.board tt is.takes was)
-  read_as got.End routes k buffer at until old new is was = parted_by k End old new is was
-  read_as got.Failed routes k buffer at until old new is was = parted_by k ReadFault old new is was
-  read_as got.Blocked routes k buffer at until old new is was = same_of old new is was
-
-  tardy_left : (k at : ℕ) (old new : Sessions) → LeavesIfTardy k at old new → KeepsOf old new
-  tardy_left k at old new leaves was = elim leaves [
-    | inl tardy ↦ parted_by k (Silent (connection_at old.desk.board k).since) old new tardy.1 was
-    | inr same ↦ same_of old new same.1 was
-  ]
-
-  read : (answer : WireGot) (routes : Routes) (k : ℕ) (buffer : List ℕ) (at until : ℕ) (old new : Sessions) → Reads answer routes k buffer at until old new → KeepsOf old new
-  read answer routes k buffer at until old new is was = tardy_left k at is.between new is.tardy (read_as answer routes k buffer at until old is.between is.reads was)
-
-  prepared_to : (session : Option ℕ) (k : ℕ) (old new : Board) → PreparesTo session k old new → Keeps old new
-  prepared_to None k old new same was = unchanged old new same was
-  prepared_to (Some s) k old new is was = one (prepares s k) old new tt is.0 was
-
-  written_some : (k n : ℕ) (old new : Board) → WritesSome k n old new → Keeps old new
-  written_some k n old new writes_some was = elim writes_some [
-    | inl none ↦ unchanged old new none.1 was
-    | inr some ↦ one (writes k n) old new tt some was
-  ]
-
-  parted_if_needed : (cause : Option Cause) (k : ℕ) (old new : Board) → PartsIfNeeded cause k old new → Keeps old new
-  parted_if_needed None k old new same was = unchanged old new same was
-  parted_if_needed (Some cause) k old new parts was = parted (connection_at old k).session k cause old new parts was
-
-  written_at : (k : ℕ) (old new : WrittenSoFar) → WritesAt k old new → KeepsOf old.sessions new.sessions
-  written_at k old new is was =
-      let w = is.writes in
-      let board = old.sessions.desk.board in
-      let last = new.sessions.desk.board in
-      parted_if_needed (cause_behind is.written.stop (connection_at w.wrote.board k)) k w.wrote.board last w.ends
-      (written_some k is.written.bytes w.prepared w.wrote.board w.writes
-      (prepared_to (connection_at board k).session k board w.prepared w.prepares was))
-
-  written_in_turn : (places : List ℕ) (count : ℕ) (old new : WrittenSoFar) → WritesInTurn places count old new → KeepsOf old.sessions new.sessions
-  written_in_turn places count old new steps =
-      each_in_turn (λ i. WritesAt (slice_index_or places i 0)) (λ a b. KeepsOf a.sessions b.sessions) (λ so_far so. so) (λ a b c one two so. two (one so)) (λ i a b. written_at (slice_index_or places i 0) a b) count old new steps
+  written_in_turn : (places : List ℕ) (count : ℕ) (old new : WrittenSoFar) → WritesInTurn places count old new → Keeps old.sessions.desk.board new.sessions.desk.board
+  written_in_turn places count old new is = walked WriteMove (λ a b. Keeps a.board b.board) (λ a so. so) (λ a b c one two so. two (one so)) write_moved _ _ (all_wrote places count old new is)
 
   -- the engine's steps
   abbrev Stays : Engine → Engine → Type 0
   Stays old new = Keeps old.sessions.desk.board new.sessions.desk.board
-
-  in_turn : (Step : ℕ → Engine → Engine → Type 0) (count : ℕ) (old new : Engine) → ((i : ℕ) (a b : Engine) → Step i a b → Stays a b) → InTurn Step count old new → Stays old new
-  in_turn Step count old new each steps = each_in_turn Step Stays (λ e so. so) (λ a b c one two so. two (one so)) each count old new steps
 
   accepted_as : (answer : Accepted) (at : ℕ) (old new : LeaseDesk) → AcceptsAs answer at old new → Keeps old.board new.board
   accepted_as (accept.New c) at old new is was = accepted before g c at old.board new.board is.0 was
@@ -246,18 +173,12 @@ module _ (before : ℕ → List Entry) (g : StillLaws before) where
   pub records_handed_out : (old new : Engine) (records : List Record) → HandsOut old new records → Stays old new
   records_handed_out old new records is was =
       unchanged is.noted.sessions.desk.board new.sessions.desk.board (ap (λ (e : Engine). e.sessions.desk.board) is.rest)
-      (in_turn NotesSession (length old.sessions.desk.board.sessions) old is.noted session_noted is.notes was)
+      (each_in_turn NotesSession Stays (λ e so. so) (λ a b c one two so. two (one so)) session_noted (length old.sessions.desk.board.sessions) old is.noted is.notes was)
 
   all_written : (links_old links_new : ℕ → Link) (old new : Engine) (bytes : ℕ) → WritesAll links_old links_new old new bytes → Stays old new
   all_written links_old links_new old new bytes is was =
       let places = open_places old.lines in
       written_in_turn places (length places) (written_so_far old.sessions.desk old.lines.unkept.items links_old 0) (written_so_far new.sessions.desk old.lines.unkept.items links_new bytes) is.writes was
-
-  pub turn_given : (old new : AtWire) (taken : Taken) (turn : Turn) → GivesTurn old new taken turn → Stays old.engine new.engine
-  turn_given old new taken turn is was =
-      let all = is.gives in
-      all_written old.links new.links all.published new.engine turn.written all.writes
-      (in_turn PublishesSession (length old.engine.sessions.desk.board.sessions) old.engine all.published session_published all.publishes was)
 
   module _ (serves : (library at until : ℕ) (old new : LibraryDesk) (turn : LibTurn) → Serves library at until old new turn → RunsFor at old.desk.board new.desk.board) where
     one_served : (library : ℕ) (old new : Serving) → ServesOne library old new → Stays old.engine new.engine
@@ -266,20 +187,27 @@ module _ (before : ℕ → List Entry) (g : StillLaws before) where
         let runs = serves library at (until_of old.engine) old.engine.sessions new.engine.sessions is.turn is.serves in
         ran runs.happenings old.engine.sessions.desk.board new.engine.sessions.desk.board (All-weaker (IsOfLibraries at) IsStill (of_libraries_still at) runs.happenings runs.all) runs.reaches was
 
+    quiet_step : (old new : AtWire) → QuietStep old new → Stays old.engine new.engine
+    quiet_step _ _ (walk.read k door old new is) = one_read k old new is
+    quiet_step _ _ (walk.ticked s door links old new is) = session_ticked s old new is
+    quiet_step _ _ (walk.served i door links old new is) = one_served (i + 1) old new is
+    quiet_step _ _ (walk.noted s door links old new is) = session_noted s old new is
+    quiet_step _ _ (walk.published s door links old new is) = session_published s old new is
+    quiet_step _ _ (walk.written door links_old links_new old new bytes is) = all_written links_old links_new old new bytes is
+
+    step : (old new : AtWire) → TurnStep old new → Stays old.engine new.engine
+    step _ _ (walk.accepted answer old new is) = next_accepted answer old new is
+    step _ _ (walk.dialled s old new is) = session_dialled s old new is
+    step _ _ (walk.quiet old new is) = quiet_step old new is
+
+    all_steps : (old new : AtWire) → Walk TurnStep old new → Stays old.engine new.engine
+    all_steps = turn_walked Stays (λ e so. so) (λ a b c one two so. two (one so)) step
+
     pub turn_taken : (reading : ℕ) (old new : AtWire) (taken : Taken) → TakesTurn reading old new taken → Stays old.engine new.engine
-    turn_taken reading old new taken is was =
-        let accepted = is.accepted in
-        let dialled = is.dialled in
-        let places = open_places dialled.engine.lines in
-        let came = next_accepted taken.accepted (at_wire (with_moment reading old.engine) old.door old.links) accepted is.accepts was in
-        let asked = each_in_turn DialsSession (λ (a b : AtWire). Stays a.engine b.engine) (λ a so. so) (λ a b c one two so. two (one so)) session_dialled
-        (length accepted.engine.sessions.desk.board.sessions) accepted dialled is.dials came in
-        let reads = each_in_turn (λ i. ReadsIfStands (slice_index_or places i 0)) (λ (a b : Reading). Stays a.engine b.engine) (λ a so. so) (λ a b c one two so. two (one so))
-        (λ i a b. one_read (slice_index_or places i 0) a b) (length places) (reading_of dialled.engine dialled.links []) (reading_of is.read new.links taken.reads) is.reads asked in
-        let ticks_are = in_turn TicksSession (length is.read.sessions.desk.board.sessions) is.read is.ticked session_ticked is.ticks reads in
-        let served = each_in_turn (λ i. ServesOne (i + 1)) (λ (a b : Serving). Stays a.engine b.engine) (λ a so. so) (λ a b c one two so. two (one so))
-        (λ i a b. one_served (i + 1) a b) (length is.ticked.sessions.ends.items) (serving_of is.ticked []) (serving_of is.served taken.libs) is.serves ticks_are in
-        in_turn NotesSession (length is.served.sessions.desk.board.sessions) is.served new.engine session_noted is.notes served
+    turn_taken reading old new taken is = all_steps _ new (takes_walk reading old new taken is)
+
+    pub turn_given : (old new : AtWire) (taken : Taken) (turn : Turn) → GivesTurn old new taken turn → Stays old.engine new.engine
+    turn_given old new taken turn is = all_steps old new (gives_walk old new taken turn is)
 
     pub turn_made : (reading : ℕ) (old new : AtWire) (turn : Turn) → MakesTurn reading old new turn → Stays old.engine new.engine
-    turn_made reading old new turn is was = turn_given is.middle new is.taken turn is.gives (turn_taken reading old is.middle is.taken is.takes was)
+    turn_made reading old new turn is = all_steps _ new (turn_walk reading old new turn is)

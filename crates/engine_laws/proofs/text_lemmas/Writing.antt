@@ -1,6 +1,6 @@
 -- A connection is written to: it takes its text, or its writing is cut short. Other connections stay as they are.
 use Rattle.std.proofs.Common.{◌≡◌, ◌≢◌, inl, inr, ℕ, zero, suc, ◌+◌, ◌<◌, ◌≤◌, Bool, true, false, List, [], ◌∷◌, ◌++◌, get_or, length, set, Option, None, Some, refl, sym, ap, subst, ◌∙◌, arith}
-use Rattle.std.proofs.lemmas.Bool.{leb-true}
+use Rattle.std.proofs.lemmas.Bool.{cases_eq as same_or_other, leb-true}
 use Rattle.std.proofs.lemmas.List.{get_or-set_other, get_or-set_same, length-drop, length-set}
 use Rattle.std.proofs.lemmas.List.Elements.{All-head}
 use Rattle.std.specs.List.{All}
@@ -23,7 +23,7 @@ use Rattle.switchboard.specs.Happenings.{ConnectionChanges, Happens, ends_bound,
 use Rattle.switchboard.specs.Ready.{IsReady}
 use Rattle.engine_laws.specs.texts.Taken.{FirstsComeAlone, HasOneTextAtMost, IsCutShortIn, IsOneFrame, TookItsText}
 use Rattle.engine_laws.proofs.text_lemmas.Frames.{body_short}
-use Rattle.engine_laws.proofs.text_lemmas.Standing.{Laws, same_or_other}
+use Rattle.engine_laws.proofs.text_lemmas.Standing.{Laws}
 use Rattle.wire_desk.specs.Steps.{HasStopped, PartsIfNeeded, PreparesTo, WritesAt, WritesInTurn, WritesSome, WrittenSoFar, cause_behind}
 use Rattle.wire_desk.specs.declared.written.Stop.{Stop}
 use Rattle.wire_desk.specs.declared.written.Stop.TheVariants.{AllTaken, Blocked, Failed, MostWritten}

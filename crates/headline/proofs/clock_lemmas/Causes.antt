@@ -1,13 +1,11 @@
 -- No message ends a connection since nothing came.
-use Rattle.std.proofs.Common.{◌≡◌, ℕ, Bool, true, false, List, Option, None, Some, Result, Ok, Err, refl}
+use Rattle.std.proofs.Common.{◌≡◌, ℕ, Bool, true, false, List, Option, Some, Result, Ok, Err, refl}
 use Rattle.fix_fields.specs.Field.{Field}
 use Rattle.session_core.specs.Receive.{receive}
-use Rattle.session_core.specs.Route.{route, session_of}
 use Rattle.session_core.specs.State.{State}
 use Rattle.session_core.specs.declared.causes.Cause.{Cause}
 use Rattle.session_core.specs.declared.causes.Cause.TheVariants.{BadLogon, CompId, Duplicate, End, LoggedOut, LowNumber, NoNumber, NoSuchSession, NotLogon, ReadFault, Silent, SlowConsumer, WriteFault}
-use Rattle.session_core.specs.declared.names.Names.{Names}
-use Rattle.session_desk.specs.Steps.{bound_on, greeting, session_on, unless_bound}
+use Rattle.session_desk.specs.Steps.{greeting}
 use Rattle.session_desk.specs.declared.routes.Routes.{Routes}
 use Rattle.switchboard.specs.Board.{Board}
 use Rattle.headline.proofs.Causes as outside
@@ -53,25 +51,9 @@ inner_err : {A : Type 0} (result : Result A Cause) → outside.IsInnerErr result
 inner_err (Ok a) inner = tt
 inner_err (Err cause) inner = not_silent cause inner
 
-route_inner : (fields : List Field) (names : List Names) → IsInnerErr (route fields names)
-route_inner fields names = inner_err (route fields names) (outside.route_inner fields names)
-
 pub message_inner : (state : State) (body : List ℕ) (at : ℕ) (cause : Cause) → (receive state body at).end ≡ Some cause → is_silent cause ≡ false
 message_inner state body at cause ends = not_silent cause (outside.message_inner state body at cause ends)
 
--- a first message that is refused
-unbound_inner : (bound : Option ℕ) (routed : Result ℕ Cause) → IsInnerErr routed → IsInnerErr (unless_bound bound routed)
-unbound_inner None routed inner = inner
-unbound_inner (Some connection) (Ok a) inner = refl
-unbound_inner (Some connection) (Err NotLogon) inner = refl
-unbound_inner (Some connection) (Err other) inner = refl
-
-on_inner : (routes : Routes) (routed : Result ℕ Cause) → IsInnerErr routed → IsInnerErr (session_on routes routed)
-on_inner routes (Ok j) inner = tt
-on_inner routes (Err cause) inner = inner
-
+-- nor does a first message that is refused
 pub greeting_inner : (board : Board) (routes : Routes) (fields : Option (List Field)) → IsInnerErr (greeting board routes fields)
-greeting_inner board routes None = refl
-greeting_inner board routes (Some fields) =
-    on_inner routes (unless_bound (bound_on board routes (session_of fields routes.names.items)) (route fields routes.names.items))
-    (unbound_inner (bound_on board routes (session_of fields routes.names.items)) (route fields routes.names.items) (route_inner fields routes.names.items))
+greeting_inner board routes fields = inner_err (greeting board routes fields) (outside.greeting_inner board routes fields)

@@ -5,7 +5,7 @@ use Rattle.std.proofs.lemmas.List.Elements.{All-append, All-cons, All-contains, 
 use Rattle.std.proofs.lemmas.Option.{none-some}
 use Rattle.std.specs.List.{All}
 use Rattle.std.specs.Prelude.{max, min, not}
-use Rattle.headline.proofs.clock_lemmas.InTurn.{each_in_turn}
+use Rattle.headline.proofs.Walking.{each_in_turn}
 use Rattle.headline.proofs.clock_lemmas.Journals.{AreTimely, IsTimely}
 use Rattle.headline.proofs.clock_lemmas.Lines.{AreInTime, IsInTime, IsTold, later_line}
 use Rattle.headline.proofs.clock_lemmas.Opened.{AreOpened, IsOff}

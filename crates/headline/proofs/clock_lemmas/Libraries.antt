@@ -5,7 +5,7 @@ use Rattle.std.proofs.lemmas.List.{get_or-replicate, length-set}
 use Rattle.std.proofs.lemmas.List.Elements.{All-cons}
 use Rattle.std.proofs.lemmas.Option.{slice_get_within}
 use Rattle.std.specs.Prelude.{◌==◌, if◌then◌else◌, slice_get}
-use Rattle.headline.proofs.clock_lemmas.InTurn.{each_in_turn}
+use Rattle.headline.proofs.Walking.{each_in_turn}
 use Rattle.headline.proofs.clock_lemmas.Lines as lines
 use Rattle.headline.proofs.clock_lemmas.Lines.{GoesOnInTime, IsCalm}
 use Rattle.engine_config.specs.declared.config.Config.{Config}

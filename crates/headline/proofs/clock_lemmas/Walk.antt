@@ -1,15 +1,16 @@
 -- Over the steps of a turn sessions and connections stay in time, and the libraries are watched.
-use Rattle.std.proofs.Common.{◌≡◌, ◌≢◌, inl, inr, ℕ, ◌+◌, ◌<◌, ◌≤◌, Bool, true, false, List, [], ◌∷◌, ◌++◌, get_or, length, Option, None, Some, Result, Ok, Err, refl, sym, ap, subst, ◌∙◌, arith}
+use Rattle.std.proofs.Common.{◌≡◌, inl, inr, ℕ, ◌+◌, ◌<◌, ◌≤◌, Bool, true, false, List, [], ◌∷◌, ◌++◌, get_or, length, Option, None, Some, Result, Ok, Err, refl, sym, ap, subst, ◌∙◌, arith}
 use Rattle.std.proofs.lemmas.Bool.{eq-eqb}
 use Rattle.std.proofs.lemmas.List.{get_or-set_same, length-set}
 use Rattle.std.proofs.lemmas.List.Elements.{All-cons, All-get_or, All-nil, All-weaker}
 use Rattle.std.proofs.lemmas.Option.{none-some, same_Some}
 use Rattle.std.specs.List.{All}
-use Rattle.std.specs.Prelude.{IsNone, if◌then◌else◌, nat_lt, slice_index_or}
+use Rattle.std.specs.Prelude.{IsNone, if◌then◌else◌, nat_lt}
 use Rattle.std.specs.Result.{result_ok}
 use Rattle.headline.proofs.clock_lemmas.Books.{IsSameButSent, binding_same}
 use Rattle.headline.proofs.clock_lemmas.Causes.{IsInnerErr, greeting_inner, is_silent, message_inner}
-use Rattle.headline.proofs.clock_lemmas.InTurn.{each_in_turn}
+use Rattle.headline.proofs.AccountLaws.{AccountLaws, so_far}
+use Rattle.headline.proofs.Walking.{each_in_turn, turn_walked, walked}
 use Rattle.headline.proofs.clock_lemmas.Libraries.{AreWatched, IsWatchedAlike, desk_alike, same_alike, served_in_time, served_watched, watched_alike}
 use Rattle.headline.proofs.clock_lemmas.Lines as lines
 use Rattle.headline.proofs.clock_lemmas.Lines.{AreInTime, GoesOnInTime, IsCalm, IsInTime, MayEnd, later_all}
@@ -21,15 +22,16 @@ use Rattle.headline.specs.clock.Waited.{HasWaited, messages_of, wait_by}
 use Rattle.connection_core.specs.Connection.{ConnectionState, IsGiven}
 use Rattle.connection_core.specs.Outgoing.{waiting_count}
 use Rattle.connection_core.specs.declared.limits.TheConstants.{LOGON_WAIT, MOST_WAITING}
-use Rattle.engine_laws.specs.Account.{IsAccountedFor, IsAccountedWith, IsAside, KeepsAccount, Progress, StaysAccountedFor, all_done, cutting, done, handling, in_hand_at, only}
+use Rattle.engine_laws.specs.Account.{IsAccountedFor, IsAccountedWith, IsAside, KeepsAccount, Progress, all_done, cutting, done, handling, in_hand_at, only}
 use Rattle.engine_laws.specs.Turns.{EngineStaysAccountedFor, board_of}
+use Rattle.engine_laws.specs.walks.Walks as walk
+use Rattle.engine_laws.specs.walks.Walks.{EndsReading, QuietStep, ReadMove, ReadSoFar, TurnStep, WriteMove}
 use Rattle.engine_loop.specs.Engines.{until_of}
-use Rattle.engine_loop.specs.Turns.{AcceptsNext, AtWire, DialsSession, GivesTurn, MakesTurn, NotesSession, PublishesSession, Reading, ReadsIfStands, ServesOne, Serving, TakesTurn, TicksSession, WritesAll, at_wire, reading_of, serving_of, with_moment}
+use Rattle.engine_loop.specs.Turns.{AcceptsNext, AtWire, DialsSession, MakesTurn, NotesSession, PublishesSession, Reading, ReadsIfStands, ServesOne, Serving, TicksSession, WritesAll, with_moment}
 use Rattle.engine_loop.specs.declared.engine.Engine.{Engine}
-use Rattle.engine_loop.specs.declared.records.Taken.{Taken}
 use Rattle.engine_loop.specs.declared.records.Turn.{Turn}
 use Rattle.fix_fields.specs.Reading.{fields_of}
-use Rattle.fix_frame.specs.Cut.{CutPiece, cut, garbled, good}
+use Rattle.fix_frame.specs.Cut.{cut}
 use Rattle.fix_frame.specs.declared.layout.TheConstants.{LONGEST_FRAME}
 use Rattle.gate_io.specs.Wire.{Link}
 use Rattle.gate_io.specs.declared.dials.Dialled.{Dialled}
@@ -37,15 +39,11 @@ use Rattle.gate_io.specs.declared.dials.Dialled.TheVariants as dial
 use Rattle.gate_io.specs.declared.wires.Accepted.{Accepted}
 use Rattle.gate_io.specs.declared.wires.Accepted.TheVariants as accept
 use Rattle.gate_io.specs.declared.wires.WireGot.{WireGot}
-use Rattle.gate_io.specs.declared.wires.WireGot.TheVariants as got
 use Rattle.lease_core.specs.State.{state_of}
 use Rattle.lease_core.specs.declared.entry.Entry.{Entry}
 use Rattle.lease_desk.specs.Desk.{Gathers, InTurn, bodies_of}
 use Rattle.lease_desk.specs.declared.desk.LeaseDesk.{LeaseDesk}
-use Rattle.library_desk.specs.Happening.{IsOfLibraries, RunsFor}
-use Rattle.library_desk.specs.Serving.{Serves}
-use Rattle.library_desk.specs.declared.desk.LibraryDesk.{LibraryDesk}
-use Rattle.library_desk.specs.declared.serving.LibTurn.{LibTurn}
+use Rattle.library_desk.specs.Happening.{IsOfLibraries}
 use Rattle.session_book.specs.Book.{Book, Desk}
 use Rattle.session_book.specs.Kept.{Kept}
 use Rattle.session_book.specs.Records.{Pending}
@@ -58,39 +56,20 @@ use Rattle.session_desk.specs.Steps.{GreetsAs, Hears, Ticks, answering, binding,
 use Rattle.session_desk.specs.declared.routes.Routes.{Routes}
 use Rattle.switchboard.specs.Board.{Board, OutboxChanges, book_at, connection_at, desk_with, no_connection, no_session, place_at}
 use Rattle.switchboard.specs.Brought.{HasHandled, good_bodies}
-use Rattle.switchboard.specs.Happenings.{Binds, Happening, Happens, Reaches, answers, binds, binds_and_ends, dials, ends_bound, ends_unbound, gives, lapses, next_pieces, accepts, prepares, receives, requests, reserves, shows, takes, ticks, times_out, writes}
+use Rattle.switchboard.specs.Happenings.{Binds, Happening, Happens, Reaches, answers, binds, binds_and_ends, dials, ends_bound, ends_unbound, gives, lapses, accepts, prepares, receives, requests, reserves, shows, takes, ticks, times_out, writes}
 use Rattle.switchboard.specs.Ready.{IsReady}
 use Rattle.switchboard.specs.Sound.{bound_of}
 use Rattle.wire_desk.specs.Dials.{DialsAs}
 use Rattle.wire_desk.specs.Places.{open_places}
-use Rattle.wire_desk.specs.Steps.{AcceptsAs, Handles, HandlesAll, HandlesBody, HandlesNext, LeavesIfTardy, PartsBy, PartsIfNeeded, PreparesTo, Reads, ReadsAs, Sessions, StopsAt, WritesAt, WritesInTurn, WritesSome, WrittenSoFar, cause_behind, cause_by, sessions_of, unless_ended, written_so_far}
+use Rattle.wire_desk.specs.Steps.{AcceptsAs, Reads, Sessions, WritesInTurn, WrittenSoFar, cause_behind, cause_by, unless_ended, written_so_far}
 use Rattle.wire_desk.specs.declared.dialling.Dialler.{Dialler}
 use Rattle.wire_desk.specs.declared.written.Stop.{Stop}
 use Rattle.wire_desk.specs.declared.written.Stop.TheVariants.{AllTaken, Blocked, Failed, MostWritten}
 
--- what the laws of accounts say
+-- what the laws say of accounts, and of what they come to
 pub record ClockLaws (before : ℕ → List Entry) (start : ℕ → State) : Type 0 where
-  pub itself : (progress : ℕ → Progress) (at : ℕ) (board : Board) → KeepsAccount progress progress at board board
-  pub aside : (progress : ℕ → Progress) (at : ℕ) (happenings : List Happening) (old new : Board) → All (IsAside at) happenings → Reaches happenings old new → KeepsAccount progress progress at old new
-  pub takes : (k : ℕ) (bytes : List ℕ) (at : ℕ) (old new : Board) → Happens (takes k bytes) old new → KeepsAccount all_done (only k cutting) at old new
-  pub gives_none : (k at : ℕ) (old new : Board) → Happens (gives k) old new → good_bodies (next_pieces (connection_at old k)) ≡ [] → KeepsAccount (only k cutting) (only k cutting) at old new
-  pub gives_one : (k at : ℕ) (body : List ℕ) (old new : Board) → Happens (gives k) old new → good_bodies (next_pieces (connection_at old k)) ≡ body ∷ [] → KeepsAccount (only k cutting) (only k (handling body)) at old new
-  pub gives_last : (k at : ℕ) (old new : Board) → Happens (gives k) old new → next_pieces (connection_at old k) ≡ [] → KeepsAccount (only k cutting) all_done at old new
-  pub stops : (k at : ℕ) (board : Board) → (connection_at board k).cause ≢ None → KeepsAccount (only k cutting) all_done at board board
-  pub gathers : (progress : ℕ → Progress) (s at until : ℕ) (old new : LeaseDesk) → Gathers s at until old new → KeepsAccount progress progress at old.board new.board
-  pub hears : (s k : ℕ) (body : List ℕ) (at until : ℕ) (old new : LeaseDesk) (unkept_old unkept_new : List Pending) (end : Option Cause) → Hears s k body at until old new unkept_old unkept_new end
-      → KeepsAccount (only k (handling body)) (only k cutting) at old.board new.board
-  pub greets : (found : Result ℕ Cause) (k : ℕ) (body : List ℕ) (at until : ℕ) (old new : LeaseDesk) (unkept_old unkept_new : List Pending) (end : Option Cause)
-      → GreetsAs found k body at until old new unkept_old unkept_new end → KeepsAccount (only k (handling body)) (only k cutting) at old.board new.board
-  pub parts : (session : Option ℕ) (k : ℕ) (cause : Cause) (at : ℕ) (old new : Board) → Happens (parting session k cause) old new → StaysAccountedFor at old new
-  pub accepts : (answer : Accepted) (old new : AtWire) → AcceptsNext answer old new → EngineStaysAccountedFor old.engine new.engine
-  pub dials : (s : ℕ) (old new : AtWire) → DialsSession s old new → EngineStaysAccountedFor old.engine new.engine
-  pub reads : (k : ℕ) (old new : Reading) → ReadsIfStands k old new → EngineStaysAccountedFor old.engine new.engine
-  pub ticks : (s : ℕ) (old new : Engine) → TicksSession s old new → EngineStaysAccountedFor old new
-  pub serves : (library : ℕ) (old new : Serving) → ServesOne library old new → EngineStaysAccountedFor old.engine new.engine
-  pub notes : (s : ℕ) (old new : Engine) → NotesSession s old new → EngineStaysAccountedFor old new
-  pub publishes : (s : ℕ) (old new : Engine) → PublishesSession s old new → EngineStaysAccountedFor old new
-  pub serving : (library at until : ℕ) (old new : LibraryDesk) (turn : LibTurn) → Serves library at until old new turn → RunsFor at old.desk.board new.desk.board
+  pub accounts : AccountLaws
+  pub open accounts use *
   pub stands : (at : ℕ) (board : Board) (accounted : IsAccountedFor before start at board) (k : ℕ) → k < length board.connections → (connection_at board k).cause ≡ None
       → (accounted.brought k).pieces ≡ (cut LONGEST_FRAME (connection_at board k).taken).pieces
   pub named : (at : ℕ) (board : Board) (accounted : IsAccountedFor before start at board) (k s : ℕ) → k < length board.connections → (connection_at board k).session ≡ Some s
@@ -353,62 +332,10 @@ module _ (before : ℕ → List Entry) (start : ℕ → State) (first timeout : 
         by_account (only k (handling body)) (only k cutting) old.board new.board (g.greets found k body at until old new unkept_old unkept_new end is)
         (λ was. greeted_in_time found k body until old new unkept_old unkept_new end inner is was.in_time) (greeted_opened found k body until old new unkept_old unkept_new end is)
 
-    body_handled : (session : Option ℕ) (routes : Routes) (k : ℕ) (body : List ℕ) (until : ℕ) (old new : Sessions) → HandlesBody session routes k body at until old new
-        → Keeps (only k (handling body)) (only k cutting) old.desk.board new.desk.board
-    body_handled (Some s) routes k body until old new is = heard_at s k body until old.desk new.desk old.unkept new.unkept is.0 is.1
-    body_handled None routes k body until old new is =
-        let fields = result_ok (fields_of body) in
-        greeted_at (greeting old.desk.board routes fields) k body until old.desk new.desk old.unkept new.unkept is.0 (greeting_inner old.desk.board routes fields) is.1
-
     -- a piece is handed out
     given_at : (two : ℕ → Progress) (k : ℕ) (old new : Board) → Happens (gives k) old new → KeepsAccount (only k cutting) two at old new → Keeps (only k cutting) two old new
     given_at two k old new is stays =
         by_account (only k cutting) two old new stays (λ was. lines.calm start first timeout at within (gives k) old new tt is was.in_time) (λ was. opened_calm (gives k) old new tt is was.opened)
-
-    piece_handled : (piece : CutPiece) (routes : Routes) (k until : ℕ) (old : Sessions) (given : LeaseDesk) (new : Sessions) → Happens (gives k) old.desk.board given.board → next_pieces (connection_at old.desk.board k) ≡ piece ∷ []
-        → Handles piece routes k at until (sessions_of given old.unkept) new → Keeps (only k cutting) (only k cutting) old.desk.board new.desk.board
-    piece_handled (garbled size) routes k until old given new gave next same = λ was.
-        unchanged (only k cutting) given.board new.desk.board (ap (λ (sessions : Sessions). sessions.desk.board) same)
-        (given_at (only k cutting) k old.desk.board given.board gave (g.gives_none k at old.desk.board given.board gave (ap good_bodies next)) was)
-    piece_handled (good body) routes k until old given new gave next handles = λ was.
-        body_handled (connection_at given.board k).session routes k body until (sessions_of given old.unkept) new handles
-        (given_at (only k (handling body)) k old.desk.board given.board gave (g.gives_one k at body old.desk.board given.board gave (ap good_bodies next)) was)
-
-    next_handled : (routes : Routes) (k until : ℕ) (old new : Sessions) → HandlesNext routes k at until old new → Keeps (only k cutting) (only k cutting) old.desk.board new.desk.board
-    next_handled routes k until old new is = piece_handled is.piece routes k until old is.given new is.gives is.is_next is.handles
-
-    stopped : (k : ℕ) (old new : Sessions) → StopsAt k old new → Keeps (only k cutting) all_done old.desk.board new.desk.board
-    stopped k old new stops = elim stops [
-      | inl ended ↦ λ was.
-          unchanged all_done old.desk.board new.desk.board (ap (λ (sessions : Sessions). sessions.desk.board) ended.1)
-          (by_account (only k cutting) all_done old.desk.board old.desk.board (g.stops k at old.desk.board ended.0) (λ still. still.in_time) (λ still. still.opened) was)
-      | inr finds ↦ given_at all_done k old.desk.board new.desk.board finds.gives (g.gives_last k at old.desk.board new.desk.board finds.gives finds.none)
-    ]
-
-    all_handled : (routes : Routes) (k until : ℕ) (old new : Sessions) → HandlesAll routes k at until old new → Keeps (only k cutting) all_done old.desk.board new.desk.board
-    all_handled routes k until old new is = λ was.
-        stopped k is.between new is.stops
-        (each_in_turn (λ i. HandlesNext routes k at until) (λ a b. Keeps (only k cutting) (only k cutting) a.desk.board b.desk.board) (λ sessions still. still) (λ a b c one two still. two (one still))
-        (λ i a b. next_handled routes k until a b) is.count old is.between is.handles was)
-
-    abbrev StaysOf : Sessions → Sessions → Type 0
-    StaysOf old new = Stays old.desk.board new.desk.board
-
-    same_at : (old new : Sessions) → new ≡ old → StaysOf old new
-    same_at old new same = unchanged all_done old.desk.board new.desk.board (ap (λ (sessions : Sessions). sessions.desk.board) same)
-
-    parted_by : (k : ℕ) (cause : Cause) (old new : Sessions) → (IsClockedAt at old.desk.board → MayEnd start first timeout at within old.desk.board k cause) → PartsBy k cause old new → StaysOf old new
-    parted_by k cause old new may is = parts_at (connection_at old.desk.board k).session k cause old.desk.board new.desk.board may is.parts
-
-    read_as : (answer : WireGot) (routes : Routes) (k : ℕ) (buffer : List ℕ) (until : ℕ) (old new : Sessions) → ReadsAs answer routes k buffer at until old new → StaysOf old new
-    read_as (got.Bytes n) routes k buffer until old new is = λ was.
-        let taken = sessions_of is.taken old.unkept in
-        all_handled routes k until taken new is.handles
-        (by_account all_done (only k cutting) old.desk.board is.taken.board (g.takes k _ at old.desk.board is.taken.board is.takes)
-        (λ still. lines.calm start first timeout at within (takes k _) old.desk.board is.taken.board tt is.takes still.in_time) (λ still. opened_calm (takes k _) old.desk.board is.taken.board tt is.takes still.opened) was)
-    read_as got.End routes k buffer until old new is = parted_by k End old new (λ was. inner_may old.desk.board k End refl) is
-    read_as got.Failed routes k buffer until old new is = parted_by k ReadFault old new (λ was. inner_may old.desk.board k ReadFault refl) is
-    read_as got.Blocked routes k buffer until old new is = same_at old new is
 
     -- no Logon came in time
     tardy_waited : (old : Board) (k : ℕ) → (connection_at old k).session ≡ None → (connection_at old k).since + LOGON_WAIT ≤ at → IsClockedAt at old → MayEnd start first timeout at within old k (Silent (connection_at old k).since)
@@ -419,39 +346,43 @@ module _ (before : ℕ → List Entry) (start : ℕ → State) (first timeout : 
         subst (λ session. HasWaited first at since (wait_by start session (messages_of c.taken))) (sym unbound)
         (subst (λ n. HasWaited first at n LOGON_WAIT) same (record { begun = came; waited = waited; some = omega arith }))
 
-    tardy_left : (k : ℕ) (old new : Sessions) → LeavesIfTardy k at old new → StaysOf old new
-    tardy_left k old new leaves = elim leaves [
-      | inl tardy ↦ parted_by k (Silent (connection_at old.desk.board k).since) old new (tardy_waited old.desk.board k tardy.0.late.unbound tardy.0.late.waited) tardy.1
-      | inr same ↦ same_at old new same.1
-    ]
+    -- a connection may end by the wire's answer, or since no Logon came
+    read_ended : (old : Board) (k : ℕ) (cause : Cause) → EndsReading old k at cause → IsClockedAt at old → MayEnd start first timeout at within old k cause
+    read_ended old k cause (inl is) was = subst (λ (why : Cause). MayEnd start first timeout at within old k why) (sym is) (inner_may old k End refl)
+    read_ended old k cause (inr (inl is)) was = subst (λ (why : Cause). MayEnd start first timeout at within old k why) (sym is) (inner_may old k ReadFault refl)
+    read_ended old k cause (inr (inr tardy)) was =
+        subst (λ (why : Cause). MayEnd start first timeout at within old k why) (sym tardy.1) (tardy_waited old k tardy.0.late.unbound tardy.0.late.waited was)
 
-    read_at : (answer : WireGot) (routes : Routes) (k : ℕ) (buffer : List ℕ) (until : ℕ) (old new : Sessions) → Reads answer routes k buffer at until old new → StaysOf old new
-    read_at answer routes k buffer until old new is = λ was. tardy_left k is.between new is.tardy (read_as answer routes k buffer until old is.between is.reads was)
+    -- a move as a connection is read, and as connections are written to
+    abbrev KeepsSoFar : ℕ → ReadSoFar → ReadSoFar → Type 0
+    KeepsSoFar k old new = Keeps (so_far k old.progress) (so_far k new.progress) old.desk.board new.desk.board
 
-    prepared_to : (session : Option ℕ) (k : ℕ) (old new : Board) → PreparesTo session k old new → Stays old new
-    prepared_to None k old new same = unchanged all_done old new same
-    prepared_to (Some s) k old new is = alone_at (prepares s k) old new tt tt tt is.0
+    read_moved : (routes : Routes) (k until : ℕ) (old new : ReadSoFar) → ReadMove routes k at until old new → KeepsSoFar k old new
+    read_moved routes k until _ _ (walk.bytes_come bytes old new is) =
+        by_account all_done (only k cutting) old.board new.board (g.takes k bytes at old.board new.board is.0)
+        (λ was. lines.calm start first timeout at within (takes k bytes) old.board new.board tt is.0 was.in_time) (λ was. opened_calm (takes k bytes) old.board new.board tt is.0 was.opened)
+    read_moved routes k until _ _ (walk.garbled_out size old new next is) = given_at (only k cutting) k old.board new.board is.0 (g.gives_none k at old.board new.board is.0 (ap good_bodies next))
+    read_moved routes k until _ _ (walk.body_out body old new next is) = given_at (only k (handling body)) k old.board new.board is.0 (g.gives_one k at body old.board new.board is.0 (ap good_bodies next))
+    read_moved routes k until _ _ (walk.heard s body end old new named is) = heard_at s k body until old.desk new.desk old.unkept new.unkept end is
+    read_moved routes k until _ _ (walk.greeted body end old new unnamed is) =
+        let fields = result_ok (fields_of body) in
+        greeted_at (greeting old.desk.board routes fields) k body until old.desk new.desk old.unkept new.unkept end (greeting_inner old.desk.board routes fields) is
+    read_moved routes k until _ _ (walk.none_out old new none is) = given_at all_done k old.board new.board is.0 (g.gives_last k at old.board new.board is.0 none)
+    read_moved routes k until _ _ (walk.had_ended desk ended) = by_account (only k cutting) all_done desk.board desk.board (g.stops k at desk.board ended) (λ was. was.in_time) (λ was. was.opened)
+    read_moved routes k until _ _ (walk.parted cause old new ends is) = parts_at (connection_at old.board k).session k cause old.board new.board (read_ended old.board k cause ends) is.0
 
-    written_some : (k n : ℕ) (old new : Board) → WritesSome k n old new → Stays old new
-    written_some k n old new writes_some = elim writes_some [
-      | inl none ↦ unchanged all_done old new none.1
-      | inr some ↦ alone_at (writes k n) old new tt tt tt some
-    ]
+    read_at : (answer : WireGot) (routes : Routes) (k : ℕ) (buffer : List ℕ) (until : ℕ) (old new : Sessions) → Reads answer routes k buffer at until old new → Stays old.desk.board new.desk.board
+    read_at answer routes k buffer until old new is =
+        walked (ReadMove routes k at until) (KeepsSoFar k) (λ a was. was) (λ a b c one two was. two (one was)) (read_moved routes k until) _ _ (g.walks.reads answer routes k buffer at until old new is)
 
-    parted_if_needed : (cause : Option Cause) (k : ℕ) (old new : Board) → ((why : Cause) → cause ≡ Some why → is_silent why ≡ false) → PartsIfNeeded cause k old new → Stays old new
-    parted_if_needed None k old new inner same = unchanged all_done old new same
-    parted_if_needed (Some cause) k old new inner is = parts_at (connection_at old k).session k cause old new (λ was. inner_may old k cause (inner cause refl)) is
+    write_moved : (old new : LeaseDesk) → WriteMove old new → Stays old.board new.board
+    write_moved _ _ (walk.made s k old new is) = alone_at (prepares s k) old.board new.board tt tt tt is.0
+    write_moved _ _ (walk.wrote k n old new is) = alone_at (writes k n) old.board new.board tt tt tt is.0
+    write_moved _ _ (walk.left k stop cause old new ends is) = parts_at (connection_at old.board k).session k cause old.board new.board (λ was. inner_may old.board k cause (written_inner stop (connection_at old.board k) cause ends)) is.0
+    write_moved _ _ (walk.stayed old new board seat) = unchanged all_done old.board new.board board
 
-    written_at : (k : ℕ) (old new : WrittenSoFar) → WritesAt k old new → StaysOf old.sessions new.sessions
-    written_at k old new is = λ was.
-        let one = is.writes in
-        let board = old.sessions.desk.board in
-        parted_if_needed (cause_behind is.written.stop (connection_at one.wrote.board k)) k one.wrote.board new.sessions.desk.board (written_inner is.written.stop (connection_at one.wrote.board k)) one.ends
-        (written_some k is.written.bytes one.prepared one.wrote.board one.writes (prepared_to (connection_at board k).session k board one.prepared one.prepares was))
-
-    written_in_turn : (places : List ℕ) (count : ℕ) (old new : WrittenSoFar) → WritesInTurn places count old new → StaysOf old.sessions new.sessions
-    written_in_turn places count old new steps =
-        each_in_turn (λ i. WritesAt (slice_index_or places i 0)) (λ a b. StaysOf a.sessions b.sessions) (λ so_far was. was) (λ a b c one two was. two (one was)) (λ i a b. written_at (slice_index_or places i 0) a b) count old new steps
+    written_in_turn : (places : List ℕ) (count : ℕ) (old new : WrittenSoFar) → WritesInTurn places count old new → Stays old.sessions.desk.board new.sessions.desk.board
+    written_in_turn places count old new is = walked WriteMove (λ a b. Stays a.board b.board) (λ a was. was) (λ a b c one two was. two (one was)) write_moved _ _ (g.walks.writes places count old new is)
 
   -- of an engine that is so of sessions and connections, and its libraries are watched
   pub record IsClockedEngine (at : ℕ) (e : Engine) : Type 0 where
@@ -573,37 +504,21 @@ module _ (before : ℕ → List Entry) (start : ℕ → State) (first timeout : 
       unserved old new (ap (λ (e : Engine). e.moment) is.rest) (desk_alike old.sessions new.sessions (ap (λ (e : Engine). e.sessions) is.rest))
       (λ within. written_in_turn old.moment within places (length places) (written_so_far old.sessions.desk old.lines.unkept.items links_old 0) (written_so_far new.sessions.desk old.lines.unkept.items links_new bytes) is.writes)
 
-  engine_in_turn : (Step : ℕ → Engine → Engine → Type 0) (count : ℕ) (old new : Engine) → ((i : ℕ) (a b : Engine) → Step i a b → Moves a b) → InTurn Step count old new → Moves old new
-  engine_in_turn Step count old new each steps = each_in_turn Step Moves moves_itself moves_further each count old new steps
+  quiet_step : (old new : AtWire) → QuietStep old new → Moves old.engine new.engine
+  quiet_step _ _ (walk.read k door old new is) = one_read k old new is (g.reads k old new is)
+  quiet_step _ _ (walk.ticked s door links old new is) = session_ticked s old new is
+  quiet_step _ _ (walk.served i door links old new is) = one_served i old new is
+  quiet_step _ _ (walk.noted s door links old new is) = session_noted s old new is
+  quiet_step _ _ (walk.published s door links old new is) = session_published s old new is
+  quiet_step _ _ (walk.written door links_old links_new old new bytes is) = all_written links_old links_new old new bytes is
 
-  turn_given : (old new : AtWire) (taken : Taken) (turn : Turn) → GivesTurn old new taken turn → Moves old.engine new.engine
-  turn_given old new taken turn is =
-      let all = is.gives in
-      moves_further old.engine all.published new.engine (engine_in_turn PublishesSession (length old.engine.sessions.desk.board.sessions) old.engine all.published session_published all.publishes)
-      (all_written old.links new.links all.published new.engine turn.written all.writes)
-
-  turn_taken : (reading : ℕ) (old new : AtWire) (taken : Taken) → TakesTurn reading old new taken → Moves (with_moment reading old.engine) new.engine
-  turn_taken reading old new taken is =
-      let begun = with_moment reading old.engine in
-      let accepted = is.accepted in
-      let dialled = is.dialled in
-      let places = open_places dialled.engine.lines in
-      moves_further begun accepted.engine new.engine (next_accepted taken.accepted (at_wire begun old.door old.links) accepted is.accepts (g.accepts taken.accepted (at_wire begun old.door old.links) accepted is.accepts))
-      (moves_further accepted.engine dialled.engine new.engine
-      (each_in_turn DialsSession (λ (a b : AtWire). Moves a.engine b.engine) (λ a. moves_itself a.engine) (λ a b c. moves_further a.engine b.engine c.engine) session_dialled
-      (length accepted.engine.sessions.desk.board.sessions) accepted dialled is.dials)
-      (moves_further dialled.engine is.read new.engine
-      (each_in_turn (λ i. ReadsIfStands (slice_index_or places i 0)) (λ (a b : Reading). Moves a.engine b.engine) (λ a. moves_itself a.engine) (λ a b c. moves_further a.engine b.engine c.engine)
-      (λ i a b reads. one_read (slice_index_or places i 0) a b reads (g.reads (slice_index_or places i 0) a b reads)) (length places) (reading_of dialled.engine dialled.links []) (reading_of is.read new.links taken.reads) is.reads)
-      (moves_further is.read is.ticked new.engine (engine_in_turn TicksSession (length is.read.sessions.desk.board.sessions) is.read is.ticked session_ticked is.ticks)
-      (moves_further is.ticked is.served new.engine
-      (each_in_turn (λ i. ServesOne (i + 1)) (λ (a b : Serving). Moves a.engine b.engine) (λ a. moves_itself a.engine) (λ a b c. moves_further a.engine b.engine c.engine)
-      one_served (length is.ticked.sessions.ends.items) (serving_of is.ticked []) (serving_of is.served taken.libs) is.serves)
-      (engine_in_turn NotesSession (length is.served.sessions.desk.board.sessions) is.served new.engine session_noted is.notes)))))
+  step : (old new : AtWire) → TurnStep old new → Moves old.engine new.engine
+  step _ _ (walk.accepted answer old new is) = next_accepted answer old new is (g.accepts answer old new is)
+  step _ _ (walk.dialled s old new is) = session_dialled s old new is
+  step _ _ (walk.quiet old new is) = quiet_step old new is
 
   turn_moves : (reading : ℕ) (old new : AtWire) (turn : Turn) → MakesTurn reading old new turn → Moves (with_moment reading old.engine) new.engine
-  turn_moves reading old new turn is =
-      moves_further (with_moment reading old.engine) is.middle.engine new.engine (turn_taken reading old is.middle is.taken is.takes) (turn_given is.middle new is.taken turn is.gives)
+  turn_moves reading old new turn is = turn_walked Moves moves_itself moves_further step _ new (g.walks.turn reading old new turn is)
 
   -- behind a turn, whose moment this is
   pub turn_moment : (reading : ℕ) (old new : AtWire) (turn : Turn) → MakesTurn reading old new turn → new.engine.moment ≡ (with_moment reading old.engine).moment

@@ -1,5 +1,5 @@
 -- A run stays accounted for over each step of its script, and over the last gathering.
-use Rattle.std.proofs.Common.{◌≡◌, ℕ, suc, ◌+◌, ◌-◌, ◌≤◌, List, [], ◌∷◌, length, Some, refl, ap, subst, sym, ◌∙◌, arith}
+use Rattle.std.proofs.Common.{◌≡◌, inl, inr, ℕ, suc, ◌+◌, ◌≤◌, List, [], ◌∷◌, length, Some, refl, ap, subst, sym, ◌∙◌, arith}
 use Rattle.std.proofs.lemmas.List.{length-set}
 use Rattle.std.proofs.lemmas.List.Elements.{All-cons, All-nil}
 use Rattle.std.specs.List.{All}
@@ -24,15 +24,15 @@ use Rattle.headline.proofs.run_lemmas.Calls.{call_made}
 use Rattle.headline.proofs.run_lemmas.Wires.{comes_on, room_on, same_on}
 use Rattle.headline.proofs.run_lemmas.Places.{each_behind}
 use Rattle.headline.proofs.run_lemmas.GoingOn.{GoingLaws, made_turn}
-use Rattle.engine_laws.proofs.library_lemmas.Steps.{each_in_turn}
+use Rattle.headline.proofs.Carrying.{StaysAside, each_step}
+use Rattle.headline.proofs.Walking.{each_in_turn}
 use Rattle.run_report.specs.declared.records.LibReport.{LibReport}
 use Rattle.run_report.specs.declared.records.RunRecord.{RunRecord}
 use Rattle.script_run.specs.Calls.{CallsAs}
 use Rattle.script_run.specs.Means.{Leaves, report_of, seat_of}
-use Rattle.script_run.specs.Runs.{CallsAt, CallsBetween, Carries, CarriesAt, CarriesOut, ChangesCaller, ComesAtWire, Meets, MeetsCaller, TurnsOver, with_room}
+use Rattle.script_run.specs.Runs.{CallsAt, CallsBetween, Carries, CarriesAt, CarriesOut, ChangesCaller, Meets, MeetsCaller, TurnsOver, with_room}
 use Rattle.script_text.specs.declared.steps.LibStep.{LibStep}
 use Rattle.script_text.specs.declared.steps.Step.{Step}
-use Rattle.script_text.specs.declared.steps.Step.TheVariants as step
 use Rattle.session_core.specs.State.{State}
 use Rattle.switchboard.specs.Board.{Board}
 use Rattle.switchboard.specs.Ready.{IsReady}
@@ -134,26 +134,19 @@ module _ (before : ℕ → List Entry) (start : ℕ → State) (laws : RunLaws b
             (ap (λ (e : Engine). e.sessions.desk.seat.table) engine) was.libraries;
       }
 
-  called_between : (what : LibStep) (place : ℕ) (old new : Run) → CallsBetween what place old new → Stays old new
+  pub called_between : (what : LibStep) (place : ℕ) (old new : Run) → CallsBetween what place old new → Stays old new
   called_between what place old new is was =
       met place is.called new is.meets_again (called what place is.met is.called is.calls (met place old is.met is.meets was))
 
-  came : (what : Step) (old new : Run) → ComesAtWire what old new → Stays old new
-  came what old new is = untouched old new (ap (λ (run : Run). run.engine) is.rest) (ap (λ (run : Run). run.callers) is.rest) (comes_on what old.wire new.wire is.comes)
+  links_on : (old new : Run) → StaysAside old new → (c : ℕ) → LinkGoesOn (link_at old.wire c) (link_at new.wire c)
+  links_on old new is = elim is.wire [
+    | inl same ↦ same_on old.wire new.wire same
+    | inr comes ↦ comes_on comes.0 old.wire new.wire comes.1
+  ]
 
   pub carried : (what : Step) (old new : Run) → Carries what old new → Stays old new
-  carried (step.At moment) old new is = untouched old new (ap (λ (run : Run). run.engine) is) (ap (λ (run : Run). run.callers) is) (λ c. same_on old.wire new.wire (ap (λ (run : Run). run.wire) is) c)
-  carried step.Turn old new is = λ was. turned (with_room old) new is (untouched old (with_room old) refl refl (room_on _ old.wire) was)
-  carried (step.Lib library what) old new is = called_between what (library - 1) old new is
-  carried step.Connect old new is = came step.Connect old new is
-  carried step.Take old new is = came step.Take old new is
-  carried (step.Bytes c bytes) old new is = came (step.Bytes c bytes) old new is
-  carried (step.Frame c body) old new is = came (step.Frame c body) old new is
-  carried (step.Finish c) old new is = came (step.Finish c) old new is
-  carried (step.FailRead c) old new is = came (step.FailRead c) old new is
-  carried (step.FailWrite c after) old new is = came (step.FailWrite c after) old new is
-  carried (step.Block c after) old new is = came (step.Block c after) old new is
-  carried (step.Unblock c) old new is = came (step.Unblock c) old new is
+  carried = each_step Stays (λ old new is. untouched old new is.engine is.callers (links_on old new is))
+      (λ old new is was. turned (with_room old) new is (untouched old (with_room old) refl refl (room_on _ old.wire) was)) called_between
 
   pub carried_out : (steps : List Step) (count : ℕ) (old new : Run) → CarriesOut steps count old new → Stays old new
   carried_out steps count old new is =

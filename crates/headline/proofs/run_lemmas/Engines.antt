@@ -24,7 +24,7 @@ use Rattle.engine_laws.specs.libraries.Feeds.{AreFed}
 use Rattle.engine_laws.specs.libraries.Replies.{AreAnswered}
 use Rattle.engine_laws.specs.libraries.Sends.{AreLogged, AreTaken}
 use Rattle.engine_laws.specs.libraries.Spans.{AllLieWithin}
-use Rattle.engine_laws.proofs.library_lemmas.Steps.{each_in_turn}
+use Rattle.headline.proofs.Walking.{each_in_turn}
 use Rattle.ring_links.specs.Ends.{HeadView, TailView}
 use Rattle.headline.specs.runs.Accounted.{AllTookAsAnswered, FitsTable, IsAccountedAt, LeavesAccounted, TookTextOrCutShort}
 use Rattle.headline.specs.runs.Lives.{DesksMeet}

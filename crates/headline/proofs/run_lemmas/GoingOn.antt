@@ -14,13 +14,14 @@ use Rattle.library_desk.specs.declared.desk.LibraryDesk.{LibraryDesk}
 use Rattle.library_desk.specs.declared.serving.LibTurn.{LibTurn}
 use Rattle.headline.specs.runs.Sides.{DeskGoesOn, RunGoesOn}
 use Rattle.headline.proofs.run_lemmas.Sides.{begins_same, desk_alone, ends_change, goes_further, goes_itself, served}
-use Rattle.engine_laws.proofs.library_lemmas.Steps.{IsKept, each_in_turn, gathered_in_turn}
+use Rattle.headline.proofs.Carrying.{each_step}
+use Rattle.headline.proofs.Walking.{each_in_turn}
+use Rattle.engine_laws.proofs.library_lemmas.Steps.{IsKept, gathered_in_turn}
 use Rattle.engine_laws.proofs.library_lemmas.Turns.{turn_made}
 use Rattle.script_run.specs.declared.run.Run.{Run}
 use Rattle.script_run.specs.Runs.{CallsAt, CallsBetween, Carries, CarriesAt, CarriesOut, Meets, TurnsOver, with_room}
 use Rattle.script_text.specs.declared.steps.LibStep.{LibStep}
 use Rattle.script_text.specs.declared.steps.Step.{Step}
-use Rattle.script_text.specs.declared.steps.Step.TheVariants as step
 use Rattle.switchboard.specs.Board.{Board}
 use Rattle.switchboard.specs.Going.{GoesOnTo}
 use Rattle.switchboard.specs.Happenings.{Happening, Reaches, reserves, shows}
@@ -126,18 +127,8 @@ module _ (laws : GoingLaws) where
       run_further old is.met new (met place old is.met is.meets) (run_further is.met is.called new (called what place is.met is.called is.calls) (met place is.called new is.meets_again))
 
   pub carried : (what : Step) (old new : Run) → Carries what old new → RunGoesOn old new
-  carried (step.At moment) old new is = untouched old new (ap (λ (run : Run). run.engine) is) (ap (λ (run : Run). run.callers) is)
-  carried step.Turn old new is = run_further old (with_room old) new (untouched old (with_room old) refl refl) (turned (with_room old) new is)
-  carried (step.Lib library what) old new is = called_between what (library - 1) old new is
-  carried step.Connect old new is = untouched old new (ap (λ (run : Run). run.engine) is.rest) (ap (λ (run : Run). run.callers) is.rest)
-  carried step.Take old new is = untouched old new (ap (λ (run : Run). run.engine) is.rest) (ap (λ (run : Run). run.callers) is.rest)
-  carried (step.Bytes c bytes) old new is = untouched old new (ap (λ (run : Run). run.engine) is.rest) (ap (λ (run : Run). run.callers) is.rest)
-  carried (step.Frame c body) old new is = untouched old new (ap (λ (run : Run). run.engine) is.rest) (ap (λ (run : Run). run.callers) is.rest)
-  carried (step.Finish c) old new is = untouched old new (ap (λ (run : Run). run.engine) is.rest) (ap (λ (run : Run). run.callers) is.rest)
-  carried (step.FailRead c) old new is = untouched old new (ap (λ (run : Run). run.engine) is.rest) (ap (λ (run : Run). run.callers) is.rest)
-  carried (step.FailWrite c after) old new is = untouched old new (ap (λ (run : Run). run.engine) is.rest) (ap (λ (run : Run). run.callers) is.rest)
-  carried (step.Block c after) old new is = untouched old new (ap (λ (run : Run). run.engine) is.rest) (ap (λ (run : Run). run.callers) is.rest)
-  carried (step.Unblock c) old new is = untouched old new (ap (λ (run : Run). run.engine) is.rest) (ap (λ (run : Run). run.callers) is.rest)
+  carried = each_step RunGoesOn (λ old new is. untouched old new is.engine is.callers)
+      (λ old new is. run_further old (with_room old) new (untouched old (with_room old) refl refl) (turned (with_room old) new is)) called_between
 
   pub carried_out : (steps : List Step) (count : ℕ) (old new : Run) → CarriesOut steps count old new → RunGoesOn old new
   carried_out steps count old new is = each_in_turn (CarriesAt steps) RunGoesOn run_itself run_further (λ i a b at. carried at.what a b at.carries) count old new is

@@ -37,14 +37,15 @@ use Rattle.headline.specs.runs.Lives.{AreKept, AreUnused, DesksMeet, HasLived, H
 use Rattle.script_run.specs.declared.callers.Caller.{Caller}
 use Rattle.script_run.specs.declared.run.Run.{Run}
 use Rattle.headline.proofs.run_lemmas.Calls.{call_made}
-use Rattle.headline.proofs.run_lemmas.Carried.{RunLaws, carried as account_carried, met as account_met}
+use Rattle.headline.proofs.run_lemmas.Carried.{RunLaws, called_between as account_called, carried as account_carried, met as account_met}
 use Rattle.headline.proofs.run_lemmas.GoingOn.{made_turn}
 use Rattle.headline.proofs.run_lemmas.Numbers.{answers_met, replies_met}
 use Rattle.headline.proofs.run_lemmas.Places.{OfEach, each_behind, get_set_other, get_set_same}
 use Rattle.headline.proofs.run_lemmas.Seats.{AreKnown, SeatKeeps, SessionKeeps, met_keeps, none_known, seat_itself}
 use Rattle.headline.proofs.run_lemmas.Sides.{begins_further, begins_itself}
 use Rattle.headline.proofs.run_lemmas.Starts.{past_end}
-use Rattle.engine_laws.proofs.library_lemmas.Steps.{each_in_turn}
+use Rattle.headline.proofs.Carrying.{each_step}
+use Rattle.headline.proofs.Walking.{each_in_turn}
 use Rattle.run_report.specs.declared.calls.Call.{Call as Kept}
 use Rattle.script_run.specs.Calls.{CallsAs}
 use Rattle.script_run.specs.Means.{StartsRun}
@@ -52,7 +53,6 @@ use Rattle.script_run.specs.Runs.{CallsAt, CallsBetween, Carries, CarriesAt, Car
 use Rattle.session_core.specs.State.{State}
 use Rattle.script_text.specs.declared.steps.LibStep.{LibStep}
 use Rattle.script_text.specs.declared.steps.Step.{Step}
-use Rattle.script_text.specs.declared.steps.Step.TheVariants as step
 
 -- calls, and calls behind them
 pub after_append : (k : Known) (calls more : List Call) → after_calls k (calls ++ more) ≡ after_calls (after_calls k calls) more
@@ -311,19 +311,11 @@ module _ (numbered : RequestsAreNumbered) (before : ℕ → List Entry) (start :
       }
 
   pub carried : (requests : ℕ) (what : Step) (old new : Run) → Carries what old new → IsAccountedRun before start old → HaveLived requests old → HaveLived requests new
-  carried requests (step.At moment) old new is account = untouched requests old new (ap (λ (run : Run). run.engine) is) (ap (λ (run : Run). run.callers) is)
-  carried requests step.Turn old new is account = λ was. turned requests (with_room old) new is (untouched requests old (with_room old) refl refl was)
-  carried requests (step.Lib library what) old new is account =
-      called_between what requests (library - 1) old new is (account_met before start laws (library - 1) old is.met is.meets account).engine.answered (account_carried before start laws (step.Lib library what) old new is account).engine.answered
-  carried requests step.Connect old new is account = untouched requests old new (ap (λ (run : Run). run.engine) is.rest) (ap (λ (run : Run). run.callers) is.rest)
-  carried requests step.Take old new is account = untouched requests old new (ap (λ (run : Run). run.engine) is.rest) (ap (λ (run : Run). run.callers) is.rest)
-  carried requests (step.Bytes c bytes) old new is account = untouched requests old new (ap (λ (run : Run). run.engine) is.rest) (ap (λ (run : Run). run.callers) is.rest)
-  carried requests (step.Frame c body) old new is account = untouched requests old new (ap (λ (run : Run). run.engine) is.rest) (ap (λ (run : Run). run.callers) is.rest)
-  carried requests (step.Finish c) old new is account = untouched requests old new (ap (λ (run : Run). run.engine) is.rest) (ap (λ (run : Run). run.callers) is.rest)
-  carried requests (step.FailRead c) old new is account = untouched requests old new (ap (λ (run : Run). run.engine) is.rest) (ap (λ (run : Run). run.callers) is.rest)
-  carried requests (step.FailWrite c after) old new is account = untouched requests old new (ap (λ (run : Run). run.engine) is.rest) (ap (λ (run : Run). run.callers) is.rest)
-  carried requests (step.Block c after) old new is account = untouched requests old new (ap (λ (run : Run). run.engine) is.rest) (ap (λ (run : Run). run.callers) is.rest)
-  carried requests (step.Unblock c) old new is account = untouched requests old new (ap (λ (run : Run). run.engine) is.rest) (ap (λ (run : Run). run.callers) is.rest)
+  carried requests = each_step (λ old new. IsAccountedRun before start old → HaveLived requests old → HaveLived requests new)
+      (λ old new is account. untouched requests old new is.engine is.callers)
+      (λ old new is account was. turned requests (with_room old) new is (untouched requests old (with_room old) refl refl was))
+      (λ what place old new is account.
+      called_between what requests place old new is (account_met before start laws place old is.met is.meets account).engine.answered (account_called before start laws what place old new is account).engine.answered)
 
   pub carried_out : (requests : ℕ) (steps : List Step) (count : ℕ) (old new : Run) → CarriesOut steps count old new → IsAccountedRun before start old → HaveLived requests old → HaveLived requests new
   carried_out requests steps count old new is account was =

@@ -18,7 +18,7 @@ use Rattle.lease_words.specs.declared.view.LibraryKnows.{LibraryKnows}
 use Rattle.library_desk.specs.declared.desk.LibraryDesk.{LibraryDesk}
 use Rattle.headline.specs.runs.Accounted.{AllLeasesStand, LeasesStand}
 use Rattle.engine_laws.specs.libraries.Sends.{AreTaken}
-use Rattle.engine_laws.proofs.library_lemmas.Steps.{each_in_turn}
+use Rattle.headline.proofs.Walking.{each_in_turn}
 use Rattle.session_book.specs.Records.{Pending}
 use Rattle.switchboard.specs.Board.{book_at}
 

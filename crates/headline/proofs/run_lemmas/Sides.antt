@@ -18,7 +18,7 @@ use Rattle.library_desk.specs.declared.serving.LibTurn.{LibTurn}
 use Rattle.library_desk.specs.declared.serving.LibTurn.TheVariants as turns
 use Rattle.headline.specs.runs.Sides.{Begins, EndsGoOn, SidesGoOn}
 use Rattle.headline.proofs.run_lemmas.Places.{get_set_other, get_set_same}
-use Rattle.engine_laws.proofs.library_lemmas.Steps.{each_in_turn}
+use Rattle.headline.proofs.Walking.{each_in_turn}
 
 pub begins_itself : {T : Type 0} (xs : List T) → Begins xs xs
 begins_itself xs = record { rest = []; is = append-nil xs }

@@ -1,6 +1,6 @@
 -- What a script does at a wire in memory lets no count of its connections fall.
 use Rattle.std.proofs.Common.{◌≡◌, ◌≢◌, ◌⊎◌, inl, inr, ℕ, zero, suc, ◌-◌, ◌≤◌, Bool, true, false, List, [], ◌∷◌, ◌++◌, get_or, map, set, refl, sym, ap, subst, ◌∙◌, arith}
-use Rattle.std.proofs.lemmas.Bool.{leb-true}
+use Rattle.std.proofs.lemmas.Bool.{cases_eq as same_or_other, leb-true}
 use Rattle.std.proofs.lemmas.List.{get_or-set_other}
 use Rattle.std.specs.Prelude.{if◌then◌else◌, ◌||◌, max}
 use Rattle.fix_frame.specs.Frame.{frame_of}
@@ -34,12 +34,6 @@ goes_on old new same = record {
 -- each connection has the same counts
 abbrev SameCounts : WireState → WireState → Type 0
 SameCounts old new = (c : ℕ) → counts_of (state_at new c) ≡ counts_of (state_at old c)
-
-same_or_other : (i j : ℕ) → (i ≡ j) ⊎ (i ≢ j)
-same_or_other zero zero = inl refl
-same_or_other zero (suc j) = inr (λ e. absurd (omega arith))
-same_or_other (suc i) zero = inr (λ e. absurd (omega arith))
-same_or_other (suc i) (suc j) = elim (same_or_other i j) [ inl e ↦ inl (ap suc e) | inr n ↦ inr (λ e. n (omega arith)) ]
 
 bool_is : (b : Bool) → (b ≡ true) ⊎ (b ≡ false)
 bool_is true = inl refl

@@ -8,7 +8,7 @@ use Rattle.gate_io.specs.Wire.{Link, LinkGoesOn}
 use Rattle.lease_core.specs.declared.entry.Entry.{Entry}
 use Rattle.library_desk.specs.declared.desk.LibraryDesk.{LibraryDesk}
 use Rattle.library_desk.specs.declared.shared.Shared.{Shared}
-use Rattle.engine_laws.proofs.library_lemmas.Steps.{each_in_turn}
+use Rattle.headline.proofs.Walking.{each_in_turn}
 use Rattle.headline.specs.runs.Accounted.{IsAccountedAt}
 use Rattle.headline.specs.runs.Sides.{DeskGoesOn}
 use Rattle.headline.specs.serving.Driven.{IsAccountedDrive}

@@ -1,5 +1,5 @@
 -- The engine meets the libraries, one behind another.
-use Rattle.std.proofs.Common.{◌≡◌, ◌≢◌, inl, inr, ℕ, zero, suc, ◌+◌, ◌<◌, ◌≤◌, List, [], ◌∷◌, length, Some, refl, sym, ap, subst, ◌∙◌, arith}
+use Rattle.std.proofs.Common.{◌≡◌, ◌≢◌, inl, inr, ℕ, zero, suc, ◌+◌, ◌<◌, ◌≤◌, List, length, Some, sym, ap, subst, ◌∙◌, arith}
 use Rattle.std.proofs.lemmas.Bool.{cases_eq}
 use Rattle.std.proofs.lemmas.List.{length-set}
 use Rattle.std.proofs.lemmas.Option.{same_Some, slice_get_within}
@@ -15,6 +15,7 @@ use Rattle.library_api.specs.Ends.{EndsView}
 use Rattle.library_desk.specs.declared.desk.LibraryDesk.{LibraryDesk}
 use Rattle.engine_laws.specs.libraries.Replies.{AreAnswered}
 use Rattle.ring_links.specs.Ends.{HeadView, TailView}
+use Rattle.headline.proofs.run_lemmas.Places.{get_set_other, get_set_same}
 use Rattle.headline.specs.runs.Accounted.{IsAccountedAt}
 use Rattle.headline.specs.runs.Lives.{DesksMeet, HasLived, IsReportedAs, IsServedAt, Life}
 use Rattle.headline.specs.serving.Served.{HasMet, life_of}
@@ -44,18 +45,6 @@ pub record IsHere (requests count : ℕ) (d : LibraryDesk) (j : ℕ) (worker : W
 
 abbrev pub AreHere : ℕ → ℕ → Meeting → Type 0
 AreHere requests count m = (j : ℕ) (worker : Worker) → slice_get m.workers j ≡ Some worker → IsHere requests count m.engine.sessions j worker
-
-get_set_same : {X : Type 0} (xs : List X) (i : ℕ) (x : X) → i < length xs → slice_get (slice_set xs i x) i ≡ Some x
-get_set_same [] i x small = absurd (omega arith)
-get_set_same (y ∷ xs) zero x small = refl
-get_set_same (y ∷ xs) (suc i) x small = get_set_same xs i x (omega arith)
-
-get_set_other : {X : Type 0} (xs : List X) (i j : ℕ) (x : X) → j ≢ i → slice_get (slice_set xs i x) j ≡ slice_get xs j
-get_set_other [] i j x other = refl
-get_set_other (y ∷ xs) zero zero x other = absurd (other refl)
-get_set_other (y ∷ xs) zero (suc j) x other = refl
-get_set_other (y ∷ xs) (suc i) zero x other = refl
-get_set_other (y ∷ xs) (suc i) (suc j) x other = get_set_other xs i j x (λ same. other (ap suc same))
 
 module _ (before : ℕ → List Entry) (start : ℕ → State) (laws : MeetLaws before start) (requests : ℕ) (last : Engine) where
   -- behind so many meetings

@@ -1,7 +1,7 @@
 use Rattle.std.proofs.Common.{inl, ◌∙◌, arith}
 use Rattle.engine_laws.specs.Account.{KeepsAccount}
 use Rattle.engine_laws.specs.Stopped.{StopsAccountedFor}
-use Rattle.engine_laws.proofs.Accounting.{AccountLaws, Keeping}
+use Rattle.engine_laws.proofs.Accounting.{AccountLaws, Keeping, account_laws}
 use Rattle.engine_laws.proofs.Stopped.{BegunLaws, binds_stopped, dials_stopped, nothing_told, receives_stopped, ticks_stopped}
 use Rattle.engine_laws.proofs.Stopping.{Leaving, StopLaws, calling_stopped, dialling_stopped, greeting_stopped, hearing_stopped, reading_stopped, serving_stopped, taking_back_stopped, ticking_stopped, turn_stopped, writing_stopped}
 use Rattle.engine_laws.proofs.laws.stops_are_accounted_for.Goals as goal
@@ -11,24 +11,7 @@ use Rattle.switchboard.specs.Happenings.{accepts, binds, binds_and_ends, dials, 
 use Rattle.switchboard.specs.Stops.{HaveSameSessions}
 
 steps : goal.After-runs_are_begun → AccountLaws
-steps c =
-    let are = c.happenings_are_accounted_for.ensures in
-    record {
-      itself = are.itself;
-      further = are.further;
-      aside = are.aside;
-      accepts = are.accepts;
-      dials = are.dials;
-      takes = are.takes;
-      gives_none = are.gives_none;
-      gives_one = are.gives_one;
-      gives_last = are.gives_last;
-      stops = are.stops;
-      receives = are.receives;
-      binds = are.binds;
-      binds_and_ends = are.binds_and_ends;
-      refuses = are.refuses;
-    }
+steps c = account_laws c.happenings_are_accounted_for.ensures
 
 begun : goal.After-runs_are_begun → BegunLaws
 begun c = (let are = c.runs_are_begun.ensures in record { bind = are.bind; dial = are.dial; message = are.message; tick = are.tick })

@@ -17,7 +17,7 @@ pub returns-clause-takes : goal.returns-clause-takes
 returns-clause-takes c = λ before reading old new taken is ready was. (turn_taken before (laws c before) c.serving_happens.ensures.serves reading old new taken is (ready, was)).1
 
 pub returns-clause-gives : goal.returns-clause-gives
-returns-clause-gives c = λ before old new taken turn is ready was. (turn_given before (laws c before) old new taken turn is (ready, was)).1
+returns-clause-gives c = λ before old new taken turn is ready was. (turn_given before (laws c before) c.serving_happens.ensures.serves old new taken turn is (ready, was)).1
 
 pub returns-clause-turn : goal.returns-clause-turn
 returns-clause-turn c = λ before reading old new turn is ready was. (turn_made before (laws c before) c.serving_happens.ensures.serves reading old new turn is (ready, was)).1

@@ -6,10 +6,10 @@ pub returns-clause-first : goal.returns-clause-first
 returns-clause-first c = first_numbered
 
 pub returns-clause-carries : goal.returns-clause-carries
-returns-clause-carries c = carried c.serving_happens.ensures.serves
+returns-clause-carries c = carried c.turns_are_walks.ensures c.serving_happens.ensures.serves
 
 pub returns-clause-carries_out : goal.returns-clause-carries_out
-returns-clause-carries_out c = carried_out c.serving_happens.ensures.serves
+returns-clause-carries_out c = carried_out c.turns_are_walks.ensures c.serving_happens.ensures.serves
 
 pub returns-clause-gathers : goal.returns-clause-gathers
 returns-clause-gathers c = λ at until old new gathers. gathered_numbered (length old.board.sessions) at until old new gathers

@@ -10,6 +10,7 @@ use Rattle.switchboard.specs.Ready.{entries_of}
 
 laws : goal.After-stops_are_accounted_for → (config : Config) → PartLaws no_entries (first_machines config)
 laws c config = record {
+  walks = c.turns_are_walks.ensures;
   itself = c.happenings_are_accounted_for.ensures.itself all_done;
   further = c.happenings_are_accounted_for.ensures.further all_done all_done all_done;
   gathers = c.sessions_are_accounted_for.ensures.gathers all_done;

@@ -4,6 +4,7 @@ use Rattle.headline.proofs.laws.logons_come_first.Goals as goal
 
 laws : goal.After-serving_happens → FirstLaws
 laws c = record {
+  walks = c.turns_are_walks.ensures;
   entry = c.entries_stay.ensures.entry;
   decide = c.entries_decide_one_by_one.ensures.state;
   over = c.entries_decide_one_by_one.ensures.states;

@@ -1,4 +1,4 @@
-use Rattle.std.proofs.Common.{◌≡◌, ◌≢◌, ℕ, ◌<◌, ◌≤◌, Bool, List, [], length, Option, None, refl, sym, ap, subst, ◌∙◌}
+use Rattle.std.proofs.Common.{◌≡◌, ◌≢◌, ℕ, ◌<◌, ◌≤◌, Bool, [], length, Option, None, refl, sym, ap, subst, ◌∙◌}
 use Rattle.std.specs.List.{All}
 use Rattle.std.specs.Prelude.{min}
 use Rattle.engine_config.specs.Config.{IsConfig}
@@ -9,19 +9,19 @@ use Rattle.engine_loop.specs.Turns.{AtWire, at_wire}
 use Rattle.engine_loop.specs.declared.engine.Engine.{Engine}
 use Rattle.gate_io.specs.Wire.{Door, Link}
 use Rattle.gate_io.specs.declared.clocks.TheConstants.{LAST_MOMENT}
+use Rattle.headline.proofs.AccountLaws.{AccountLaws}
 use Rattle.headline.proofs.Coming.{AtWireInOrder, gathered_numbered}
 use Rattle.headline.proofs.Driven.{drove_in_order, drove_whole, first_ended, first_in_order}
 use Rattle.headline.proofs.Few.{AreFewAt, drove_few, first_few}
 use Rattle.headline.proofs.Finished.{finished, none_spent}
 use Rattle.headline.proofs.MeetsHeadline.{HeadlineLaws, meets_headline}
-use Rattle.headline.proofs.Whole.{EndLaws, gathered_whole}
+use Rattle.headline.proofs.Whole.{gathered_whole}
 use Rattle.headline.proofs.laws.served_headlines_hold.Goals as goal
 use Rattle.headline.specs.Ends.{AllEndedWhole}
 use Rattle.headline.specs.Finished.{IsFinished}
 use Rattle.headline.specs.Headline.{Headline}
 use Rattle.headline.specs.LogonsFirst.{LogonsComeFirst}
 use Rattle.headline.specs.Numbering.{AreInOrder}
-use Rattle.lease_core.specs.declared.entry.Entry.{Entry}
 use Rattle.headline.specs.runs.Accounted.{first_machines, no_entries}
 use Rattle.run_report.specs.declared.records.RunRecord.{RunRecord}
 use Rattle.script_text.specs.declared.steps.Script.{Script}
@@ -45,14 +45,19 @@ laws c = record {
   libraries = record { pops = c.replies_close_requests.ensures.popped; lines_tell = c.lines_tell_deeds.ensures.library; handed = c.kept_calls_tell.ensures.notices };
 }
 
-ends : goal.After-served_scripts_are_accounted_for → (before : ℕ → List Entry) (start : ℕ → State) → EndLaws before start
-ends c before start = record {
+ends : goal.After-served_scripts_are_accounted_for → AccountLaws
+ends c = record {
+  walks = c.turns_are_walks.ensures;
   itself = c.happenings_are_accounted_for.ensures.itself;
-  further = c.happenings_are_accounted_for.ensures.further;
-  gathers = c.sessions_are_accounted_for.ensures.gathers;
   aside = c.happenings_are_accounted_for.ensures.aside;
   takes = c.happenings_are_accounted_for.ensures.takes;
-  handles_all = c.lines_are_accounted_for.ensures.handles_all;
+  gives_none = c.happenings_are_accounted_for.ensures.gives_none;
+  gives_one = c.happenings_are_accounted_for.ensures.gives_one;
+  gives_last = c.happenings_are_accounted_for.ensures.gives_last;
+  stops = c.happenings_are_accounted_for.ensures.stops;
+  gathers = c.sessions_are_accounted_for.ensures.gathers;
+  hears = c.sessions_are_accounted_for.ensures.hears;
+  greets = c.sessions_are_accounted_for.ensures.greets;
   parts = c.sessions_are_accounted_for.ensures.parts;
   accepts = c.steps_are_accounted_for.ensures.accepts;
   dials = c.steps_are_accounted_for.ensures.dials;
@@ -61,7 +66,6 @@ ends c before start = record {
   serves = c.steps_are_accounted_for.ensures.serves;
   notes = c.steps_are_accounted_for.ensures.notes;
   publishes = c.steps_are_accounted_for.ensures.publishes;
-  further_steps = c.steps_are_accounted_for.ensures.further;
   serving = c.serving_happens.ensures.serves;
 }
 
@@ -90,13 +94,13 @@ module _ (c : goal.After-served_scripts_are_accounted_for) (script : Script) (tu
   same = ap (λ (e : Engine). e.sessions.desk.board) is.has_met
 
   last_order : AtWireInOrder (at_wire serves.last new new_links)
-  last_order = subst AtWireInOrder serves.drives.at (drove_in_order c.serving_happens.ensures.serves (connections_of config) config.libraries serves.drives.count begin serves.drives.last serves.drives.drives
+  last_order = subst AtWireInOrder serves.drives.at (drove_in_order c.turns_are_walks.ensures c.serving_happens.ensures.serves (connections_of config) config.libraries serves.drives.count begin serves.drives.last serves.drives.drives
       (first_in_order config moment serves.shared serves.first old old_links serves.starts accepted dialled))
 
   last_ended : AllEndedWhole serves.last.sessions.desk.board
   last_ended =
       subst (λ (a : AtWire). AllEndedWhole a.engine.sessions.desk.board) serves.drives.at
-      (drove_whole no_entries start (ends c no_entries start) (c.drives_are_accounted_for.ensures.once no_entries start) (connections_of config) config.libraries serves.drives.count begin serves.drives.last serves.drives.drives
+      (drove_whole no_entries start (ends c) (c.drives_are_accounted_for.ensures.once no_entries start) (connections_of config) config.libraries serves.drives.count begin serves.drives.last serves.drives.drives
       (record {
         engine = c.engines_are_accounted_for.ensures.first config moment serves.shared serves.first serves.starts;
         texts = c.texts_are_taken.ensures.first (entries_of serves.first.sessions.desk.board) serves.first.sessions.desk.board old_links serves.starts.sessions.first;
@@ -137,7 +141,7 @@ module _ (c : goal.After-served_scripts_are_accounted_for) (script : Script) (tu
 
   last_few : AreFewAt config.connections config.dials (at_wire serves.last new new_links)
   last_few = subst (AreFewAt config.connections config.dials) serves.drives.at
-      (drove_few config.connections config.dials c.serving_happens.ensures.serves (connections_of config) config.libraries serves.drives.count begin serves.drives.last serves.drives.drives
+      (drove_few config.connections config.dials c.turns_are_walks.ensures c.serving_happens.ensures.serves (connections_of config) config.libraries serves.drives.count begin serves.drives.last serves.drives.drives
       (first_few config moment serves.shared serves.first old old_links serves.starts dialled))
 
   run_finished : None ≡ spent → IsFinished config.connections config.dials left

@@ -1,0 +1,2 @@
+-- How a turn is made.
+pub mod Walks
