@@ -53,6 +53,7 @@ use engine_laws::libraries::{
     messages_are_in_order, messages_lie_within_holdings, requests_are_answered, sends_are_taken,
 };
 use engine_laws::texts::{logons_are_answered, texts_are_taken};
+use engine_laws::walks::turns_are_walks;
 use library_api::{
     deeds_are_answered, posts_are_sent, reads_have_no_gap, replies_close_requests,
     requests_are_numbered,
@@ -69,6 +70,7 @@ pub fn runs_go_on()
     ensures carries { (step : Step) (old new : Run) → Carries step old new → RunGoesOn old new }
     ensures carries_out { (steps : List Step) (count : ℕ) (old new : Run) → CarriesOut steps count old new → RunGoesOn old new }
 {
+    turns_are_walks();
     boards_go_on();
     boards_stay_ready();
     serving_happens();
@@ -87,6 +89,7 @@ pub fn engines_are_accounted_for()
         → Finishes seats engine.lines.unkept.items engine.accepted engine.moment (until_of engine) engine.sessions left.engine → left.libraries ≡ reports → IsAccountedAt before start engine.moment engine.sessions
         → TookTheirTexts engine.sessions.desk.board links → All (FitsTable engine.sessions.desk.seat.table.shape.libraries) seats → LeavesAccounted before start engine links seats reports left }
 {
+    turns_are_walks();
     boards_go_on();
     boards_stay_ready();
     serving_happens();
@@ -112,6 +115,7 @@ pub fn runs_are_accounted_for()
     // What the run leaves is accounted for.
     ensures leaves { (before : ℕ → List Entry) (start : ℕ → State) (run : Run) (left : RunRecord) → Leaves run left → IsAccountedRun before start run → RunLeavesAccounted before start run left }
 {
+    turns_are_walks();
     boards_go_on();
     boards_stay_ready();
     serving_happens();
@@ -146,6 +150,7 @@ pub fn libraries_live()
     ensures carries_out { (before : ℕ → List Entry) (start : ℕ → State) (requests : ℕ) (steps : List Step) (count : ℕ) (old new : Run) → CarriesOut steps count old new → IsAccountedRun before start old
         → HaveLived requests old → HaveLived requests new }
 {
+    turns_are_walks();
     requests_are_numbered();
     boards_go_on();
     boards_stay_ready();

@@ -14,6 +14,7 @@ use Rattle.switchboard.specs.Told.{machines_of}
 
 going : goal.After-sends_are_taken → GoingLaws
 going c = record {
+  walks = c.turns_are_walks.ensures;
   itself = c.boards_go_on.ensures.itself;
   further = c.boards_go_on.ensures.further;
   runs = c.boards_go_on.ensures.run;

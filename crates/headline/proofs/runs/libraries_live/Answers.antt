@@ -8,6 +8,7 @@ use Rattle.session_core.specs.State.{State}
 
 going : goal.After-engines_are_accounted_for → GoingLaws
 going c = record {
+  walks = c.turns_are_walks.ensures;
   itself = c.boards_go_on.ensures.itself;
   further = c.boards_go_on.ensures.further;
   runs = c.boards_go_on.ensures.run;

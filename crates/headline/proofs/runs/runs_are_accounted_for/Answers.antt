@@ -10,6 +10,7 @@ use Rattle.switchboard.specs.Ready.{entries_of}
 
 going : goal.After-engines_are_accounted_for → GoingLaws
 going c = record {
+  walks = c.turns_are_walks.ensures;
   itself = c.boards_go_on.ensures.itself;
   further = c.boards_go_on.ensures.further;
   runs = c.boards_go_on.ensures.run;

@@ -3,6 +3,7 @@ use Rattle.headline.proofs.runs.runs_go_on.Goals as goal
 
 going : goal.After-serving_happens → GoingLaws
 going c = record {
+  walks = c.turns_are_walks.ensures;
   itself = c.boards_go_on.ensures.itself;
   further = c.boards_go_on.ensures.further;
   runs = c.boards_go_on.ensures.run;
