@@ -1,5 +1,5 @@
 #!/usr/bin/env python3
-"""How fast reports are audited, beside plain C that cuts the same lines into words and numbers.
+"""How fast reports are audited, beside plain Rust that cuts the same lines into words and numbers.
 
 Three kinds of reports, each of about 32 MB and of a tenth of that: the orders of one session, which nobody reads; orders that
 libraries read and answer, lease by lease; and journals alone, whose lines are short. Both programs take each report by
@@ -102,7 +102,8 @@ def main():
     subprocess.run(["rt", "run"], cwd=CRATE, check=True, capture_output=True)
     with tempfile.TemporaryDirectory() as folder:
         plain = os.path.join(folder, "plain_words")
-        subprocess.run(["cc", "-O2", "-o", plain, os.path.join(ROOT, "bench", "plain_words.c")], check=True)
+        source = os.path.join(ROOT, "bench", "plain_words.rs")
+        subprocess.run(["rustc", "--edition", "2021", "-C", "opt-level=2", "-o", plain, source], check=True)
         path = os.path.join(folder, "report")
         for kind, make in KINDS.items():
             times = {}
@@ -119,7 +120,7 @@ def main():
                 taken, yardstick = statistics.median(ours), statistics.median(theirs)
                 times[size] = taken
                 rate = len(text) * 1000 / taken
-                print(f"{kind}: {len(text)} bytes, {rate:.0f} MB a second, {taken / yardstick:.1f} times plain C")
+                print(f"{kind}: {len(text)} bytes, {rate:.0f} MB a second, {taken / yardstick:.1f} times plain Rust")
             print(f"{kind}: ten times the bytes take {times[SIZE] / times[SIZE // 10]:.1f} times as long")
 
 

@@ -1,10 +1,10 @@
 #!/usr/bin/env python3
 """How fast the byte layers are: streams of good frames and hostile ones, cut and read.
 
-For each stream it prints megabytes a second of the cut beside the time in which bench/scan_bytes.c passes once over the
+For each stream it prints megabytes a second of the cut beside the time in which bench/scan_bytes.rs passes once over the
 same bytes, in the same run, as a ratio; and for good frames messages a second with their fields read, beside the time in
-which bench/scan_fields.c, plain C, does the same work: it takes each frame, compares its sum, and notes the tag, place
-and length of each field. Each figure is the median of five runs by turns. Nothing depends on the numbers but the reader.
+which bench/scan_fields.rs, plain Rust, does the same work: it takes each frame, compares its sum, and notes the tag and the
+value of each field. Each figure is the median of five runs by turns. Nothing depends on the numbers but the reader.
 """
 import os
 import statistics
@@ -71,7 +71,8 @@ def nanoseconds(*commands):
 
 def compiled(folder, name):
     program = os.path.join(folder, name)
-    subprocess.run(["cc", "-O3", "-o", program, os.path.join(ROOT, "bench", name + ".c")], check=True)
+    source = os.path.join(ROOT, "bench", name + ".rs")
+    subprocess.run(["rustc", "--edition", "2021", "-C", "opt-level=2", "-o", program, source], check=True)
     return program
 
 
@@ -95,7 +96,7 @@ def main():
                 messages = stream.count(b"\x0135=")
                 line += (
                     f"; with fields {messages * 1e9 / read:,.0f} messages a second, {read / messages:.0f} ns each, "
-                    f"{read / plain:.2f} times plain C"
+                    f"{read / plain:.2f} times plain Rust"
                 )
             print(line)
 

@@ -1,10 +1,10 @@
 #!/usr/bin/env python3
-"""How fast `fixgate replay` carries out large scripts, as ratios to a plain C program.
+"""How fast `fixgate replay` carries out large scripts, as ratios to a plain Rust program.
 
 Three kinds of scripts of nearly 16 MiB, and each with a tenth of its messages: the orders of one session,
 orders of 64 sessions in turn, and a library's calls (it requests a session, polls what came, sends a report
 for each order, and gives the session back). Both programs replay each script by turns; the times are the
-median of five. bench/plain_replay.c does the same work in plain C: it splits, frames, cuts, checks, keeps, and
+median of five. bench/plain_replay.rs does the same work in plain Rust: it splits, frames, cuts, checks, keeps, and
 writes as much, and is checked to write about as many bytes. The last ratio of a kind is that of the two scripts'
 times: near ten where the time is linear. Nothing depends on the numbers but the reader.
 """
@@ -112,7 +112,7 @@ def measure(folder, plain, name, make, orders):
     (_, told), (_, plainly) = runs[0]
     print(
         f"{name}: {orders} orders, {len(text):,} bytes: replay {replayed:.3f} s, {orders / replayed:,.0f} orders and "
-        f"{len(text) / replayed / 1e6:.1f} MB a second; plain C {yardstick:.3f} s; ratio {replayed / yardstick:.2f}; "
+        f"{len(text) / replayed / 1e6:.1f} MB a second; plain Rust {yardstick:.3f} s; ratio {replayed / yardstick:.2f}; "
         f"reports of {told:,} and {plainly:,} bytes"
     )
     return replayed
@@ -123,7 +123,8 @@ def main():
     subprocess.run([FIXGATE], stdout=subprocess.DEVNULL, stderr=subprocess.DEVNULL)
     with tempfile.TemporaryDirectory() as folder:
         plain = os.path.join(folder, "plain_replay")
-        subprocess.run(["cc", "-O2", "-o", plain, os.path.join(ROOT, "bench", "plain_replay.c")], check=True)
+        source = os.path.join(ROOT, "bench", "plain_replay.rs")
+        subprocess.run(["rustc", "--edition", "2021", "-C", "opt-level=2", "-o", plain, source], check=True)
         for name, make in [("one session", one_session), ("64 sessions", many_sessions), ("library calls", library_calls)]:
             most = largest(make)
             whole = measure(folder, plain, name, make, most)
