@@ -69,13 +69,14 @@ fn answer_beside<R: Threads + Sync>(
     ensures over { IsOver shared.now gateway.new.engine gateway.new.wire }
 {
     let over = AtomicBool::new(false);
-    let (written, answered) = join_mut(
+    // (the second of them stays in this thread)
+    let (answered, written) = join_mut(
         rt,
+        &mut || answer(alloc, library, count, &over),
         &mut || -> Result<u64, NoMemory>
             requires { IsOver shared.now gateway.now.engine gateway.now.wire }
             ensures { IsOver shared.entry.now gateway.exit.now.engine gateway.exit.now.wire }
         { drive(alloc, shared, gateway, &over) },
-        &mut || answer(alloc, library, count, &over),
     );
     answered?;
     written
