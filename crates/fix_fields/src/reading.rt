@@ -40,6 +40,9 @@ impl Fault {
 
 /// The field at the front of `rest`, directly behind the field `before`, and the bytes after it.
 /// At a body's front `before` has tag 0.
+// It and what it calls are always inlined: each field of each message is read by it, and a call would hand the
+// field over in memory.
+#[inline(always)]
 #[tactic(auto, using(crate::proofs::Tags::field_at_no_tag))]
 pub(crate) fn next_field<'a>(
     rest: &'a [u8],
@@ -59,6 +62,7 @@ pub(crate) fn next_field<'a>(
 
 /// The value at the front of `tail`, of a field of this tag behind the field `before`, and the bytes
 /// after its SOH.
+#[inline(always)]
 #[tactic(auto, unfolding(crate::specs::Reading::value_at))]
 fn read_value<'a>(
     before: &Entry<'a>,
@@ -75,6 +79,7 @@ fn read_value<'a>(
 }
 
 /// The tag at the front, and the bytes behind its `=`; none where no tag with `=` behind it is there.
+#[inline(always)]
 #[tactic(auto, unfolding(crate::specs::Reading::tag_at))]
 fn split_tag(rest: &[u8]) -> Option<(u32, &[u8])>
     ensures { lent_tag result ≡ tag_at rest.now }
@@ -121,6 +126,7 @@ fn split_at_equals(rest: &[u8]) -> Option<(&[u8], &[u8])>
 }
 
 /// The bytes before the first SOH and those behind it.
+#[inline(always)]
 fn split_at_soh(tail: &[u8]) -> Option<(&[u8], &[u8])>
     ensures { lent result ≡ split_at_soh tail.now }
 {
