@@ -27,6 +27,11 @@ field_of tag value = field_text (record { tag = tag; value = value })
 unfoldable pub stamp : ℕ → List ℕ
 stamp at = stamp_of (min at LAST_MOMENT)
 
+-- the texts that a connection keeps: sender and target as they are written, and a moment
+pub record Kept : Type 0 where
+  pub parties : List ℕ
+  pub stamp : List ℕ
+
 -- SendingTime (52) alone, or between PossDupFlag (43) and OrigSendingTime (122)
 unfoldable pub times : ℕ → Option ℕ → List ℕ
 times at None = field_of 52 (stamp at)
