@@ -13,5 +13,6 @@ mod records;
 mod settling;
 
 pub use finishing::{finish, leave};
+pub use library_desk::Stray;
 pub use meeting::meet;
 pub use records::{EngineRecord, RecordRoom};

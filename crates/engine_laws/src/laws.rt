@@ -11,7 +11,7 @@ ghost use Rattle.engine_loop.specs.Turns.{AcceptsNext, AtWire, DialsSession, Han
 ghost use Rattle.engine_loop.specs.declared.engine.Engine.{Engine};
 ghost use Rattle.engine_loop.specs.declared.records.Taken.{Taken};
 ghost use Rattle.engine_loop.specs.declared.records.Turn.{Turn};
-ghost use Rattle.engine_start.specs.Starts.{StartsSessions};
+ghost use Rattle.engine_loop.specs.Starts.{StartsSessions};
 ghost use Rattle.fix_frame.specs.Cut.{cut};
 ghost use Rattle.fix_frame.specs.declared.layout.TheConstants.{LONGEST_FRAME};
 ghost use Rattle.gate_io.specs.Wire.{Link};

@@ -10,7 +10,7 @@ ghost use Rattle.engine_loop.specs.Turns.{AtWire, HandsOut, MakesTurn, TakesTurn
 ghost use Rattle.engine_loop.specs.declared.engine.Engine.{Engine};
 ghost use Rattle.engine_loop.specs.declared.records.Taken.{Taken};
 ghost use Rattle.engine_loop.specs.declared.records.Turn.{Turn};
-ghost use Rattle.engine_start.specs.Starts.{StartsDesk, StartsEngine, StartsSessions, StartsTable};
+ghost use Rattle.engine_loop.specs.Starts.{StartsDesk, StartsEngine, StartsSessions, StartsTable};
 ghost use Rattle.lease_core.specs.declared.entry.Entry.{Entry};
 ghost use Rattle.lease_core.specs.declared.messages.Command.{Command};
 ghost use Rattle.lease_core.specs.declared.messages.Notice.{Notice};

@@ -5,3 +5,8 @@ pub mod Turns
 pub mod Leaving
 pub mod Stops
 pub use Rattle.wire_desk.specs.Lines
+pub use Rattle.engine_start.specs.declared.ends.LibraryEnds
+pub use Rattle.engine_end.specs.Finishing
+pub use Rattle.engine_end.specs.Meeting
+pub use Rattle.engine_end.specs.Records
+pub use Rattle.engine_end.specs.Room

@@ -7,7 +7,7 @@ use Rattle.engine_config.specs.Config.{dial_of, names_of}
 use Rattle.engine_config.specs.declared.config.Config.{Config}
 use Rattle.engine_end.specs.Room.{Room}
 use Rattle.engine_loop.specs.declared.engine.Engine.{Engine}
-use Rattle.engine_start.specs.Starts.{StartsDesk, StartsEngine, StartsSessions, StartsTable}
+pub use Rattle.engine_start.specs.Starts.{AreLibraryEnds, StartsDesk, StartsEngine, StartsSessions, StartsTable, configured_book}
 use Rattle.library_desk.specs.declared.desk.LibraryDesk.{LibraryDesk}
 use Rattle.library_desk.specs.declared.shared.Shared.{Shared}
 use Rattle.session_desk.specs.Steps.{nothing_noted}

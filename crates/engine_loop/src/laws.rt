@@ -24,7 +24,8 @@ ghost use Rattle.wire_desk.specs.Texts.{HaveTextsFrom};
 
 use library_desk::laws::cursors_stay;
 use wire_desk::dialling_goes_on;
-use wire_desk::laws::{lines_progress, wires_stay_known, writes_begin_texts};
+pub use wire_desk::laws::wires_stay_known;
+use wire_desk::laws::{lines_progress, writes_begin_texts};
 
 /// An engine stays at work, and its connections on the wire.
 pub fn engines_stay()

@@ -19,5 +19,7 @@ mod taking;
 mod ticking;
 
 pub use engine::Engine;
+pub use engine_end::EngineRecord;
+pub use engine_start::LibraryEnds;
 pub use records::{Taken, Turn};
 pub use starting::{start, start_from};

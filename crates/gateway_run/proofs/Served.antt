@@ -16,8 +16,8 @@ use Rattle.run_report.specs.declared.records.RunRecord.{RunRecord}
 use Rattle.run_report.specs.Records.{no_run}
 use Rattle.script_text.specs.declared.steps.Script.{Script}
 use Rattle.headline.specs.serving.Served.{AnyReadings}
-use Rattle.serve_run.specs.Serves.{Serves}
-use Rattle.serve_run.specs.Stops.{ServesInPart}
+use Rattle.headline.specs.Serves.{Serves}
+use Rattle.headline.specs.InPart.{ServesInPart}
 
 module _ (Is : Script → Type 0) (turns : ℕ) (Serving : Script → ℕ → RunRecord → Option ℕ → Type 0) (InPart : RunRecord → Type 0) (Unasked : Type 0) (text : List ℕ) (old new : Option (List ℕ)) (risen same : Type 0) where
   pub served_by : (ended : Status) (spent : Option ℕ) (run : RunRecord) → IsServed Is turns Serving run spent → All HasLawfulJournal run.engine.sessions → Writes text old new risen same ended → ServesSo Is turns Serving InPart Unasked (with_spent ended turns spent) run

@@ -20,9 +20,9 @@ use Rattle.headline.specs.runs.Records.{IsAccountedRecord}
 use Rattle.run_report.specs.Report.{report_of}
 use Rattle.run_report.specs.Summary.{summary_of}
 use Rattle.run_report.specs.declared.records.RunRecord.{RunRecord}
-use Rattle.script_run.specs.Means.{Means}
+use Rattle.headline.specs.Means.{Means}
 use Rattle.run_report.specs.Records.{no_run}
-use Rattle.script_run.specs.Stops.{MeansInPart}
+use Rattle.headline.specs.InPart.{MeansInPart}
 use Rattle.script_text.specs.Meaning.{script_of}
 use Rattle.session_book.specs.declared.reads.SessionRecord.{SessionRecord}
 use Rattle.script_text.specs.declared.kinds.ScriptError.TheVariants.{Fault}

@@ -15,8 +15,8 @@ use Rattle.headline.specs.InPart.{HeadlineInPart}
 use Rattle.run_report.specs.declared.records.RunRecord.{RunRecord}
 use Rattle.script_text.specs.declared.steps.Script.{Script}
 use Rattle.run_report.specs.Records.{no_run}
-use Rattle.serve_run.specs.Serves.{Serves}
-use Rattle.serve_run.specs.Stops.{ServesInPart}
+use Rattle.headline.specs.Serves.{Serves}
+use Rattle.headline.specs.InPart.{ServesInPart}
 
 -- A wire came to listen at this address, and tells this of its connections.
 pub record ListensAt {W : Type 0} (gives : W → List ℕ → Listened → W → Type 0) (link : W → ℕ → Link) (old : W) (address : List ℕ) (links : ℕ → Link) : Type 0 where

@@ -27,10 +27,10 @@ use command_words::{Chosen, WordsError, command_of};
 use drill_maker::drill;
 use drill_maker::laws::drills_are_lawful;
 use gate_io::{NoMemory, Sink, Source};
+use headline::carry_out;
 use headline::laws::{headlines_hold, headlines_hold_in_part};
 use headline::runs::scripts_are_accounted_for;
 use run_report::RunRecord;
-use script_run::carry_out;
 use script_text::{LONGEST_SCRIPT, ScriptError};
 use std::alloc::Global;
 

@@ -26,9 +26,9 @@ use command_words::{Chosen, WordsError, command_of};
 use gate_io::{Clock, Dial, Gate, Listened, NoMemory, Sink, Source};
 use headline::clock::silences_are_waited_for;
 use headline::laws::{headlines_hold_in_part, served_headlines_hold};
+use headline::{Served, serve_script};
 use run_report::RunRecord;
 use script_text::{LONGEST_SCRIPT, Script, ScriptError};
-use serve_run::{Served, serve_script};
 use std::alloc::Global;
 use std::thread::Threads;
 

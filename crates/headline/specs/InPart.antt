@@ -13,6 +13,8 @@ use Rattle.lease_core.specs.State.{state_of}
 use Rattle.headline.specs.runs.Accounted.{first_machines}
 use Rattle.headline.specs.runs.Sides.{Begins}
 use Rattle.run_report.specs.declared.records.RunRecord.{RunRecord}
+pub use Rattle.script_run.specs.Stops.{MeansInPart}
+pub use Rattle.serve_run.specs.Stops.{ServesInPart}
 use Rattle.session_book.specs.Runs.{Handled, IsInside, TellEach, TellRuns, bodies_of}
 use Rattle.session_book.specs.Spells.{Spell, act_entries, placed_from, spells_behind}
 use Rattle.session_core.specs.Runs.{after_connections, connection_acts}

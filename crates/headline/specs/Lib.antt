@@ -12,3 +12,5 @@ pub mod Dialled
 pub mod LogonsFirst
 pub mod InPart
 pub mod WrongInPart
+pub use Rattle.script_run.specs.Means
+pub use Rattle.serve_run.specs.Serves

@@ -8,10 +8,13 @@
 //!   back for its library's silence.
 //! - `laws`: the headline follows, and wrong records are refuted.
 //!
-//! It has no code, only laws of the definitions of the crates below.
+//! It has no code, only laws of the definitions of the crates below, and hands on the two calls that they are about.
 #![tactic(auto)]
 
 pub mod clock;
 pub mod laws;
 pub mod runs;
 pub mod serving;
+
+pub use script_run::carry_out;
+pub use serve_run::{Served, serve_script};

@@ -21,7 +21,7 @@ ghost use Rattle.library_api.specs.Known.{Known, new_library};
 ghost use Rattle.library_api.specs.Posts.{posts_of};
 ghost use Rattle.library_api.specs.Reads.{notices_of, reads_of};
 ghost use Rattle.library_api.specs.Requests.{after_done};
-ghost use Rattle.library_calls.specs.Calls.{MakesCall};
+ghost use Rattle.script_run.specs.Calls.{MakesCall};
 ghost use Rattle.library_desk.specs.declared.desk.LibraryDesk.{LibraryDesk};
 ghost use Rattle.library_desk.specs.declared.shared.Shared.{Shared};
 ghost use Rattle.engine_laws.specs.libraries.Replies.{AreAnswered};

@@ -13,9 +13,9 @@ use Rattle.lease_words.specs.declared.view.EngineSession.{EngineSession}
 use Rattle.lease_words.specs.Leases.{is_running}
 use Rattle.lease_words.specs.Sees.{after_look, after_revoke, after_take}
 use Rattle.lease_words.specs.Views.{EngineView, engine_at, last_library, pending, with_engine_at}
-use Rattle.session_book.specs.Book.{Desk}
-use Rattle.session_book.specs.Kept.{Kept}
-use Rattle.session_book.specs.Words.{after_timeout, after_word, shown_sends}
+use Rattle.switchboard.specs.Book.{Desk}
+use Rattle.switchboard.specs.Kept.{Kept}
+use Rattle.switchboard.specs.Words.{after_timeout, after_word, shown_sends}
 use Rattle.switchboard.specs.Board.{Board, DeskChanges, OutboxChanges, book_at, connection_at, desk_at, no_connection, place_at, session_at}
 use Rattle.switchboard.specs.Happenings.{Happens, shows, times_out}
 use Rattle.switchboard.specs.Sound.{bound_of}

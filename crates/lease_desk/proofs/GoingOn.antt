@@ -12,7 +12,7 @@ use Rattle.lease_core.specs.declared.word.Word.{Word}
 use Rattle.lease_core.specs.declared.word.Standing.{Standing}
 use Rattle.lease_core.specs.declared.word.Standing.TheVariants.{Active, Released, Revoked}
 use Rattle.lease_words.specs.Leases.{is_running, runs}
-use Rattle.session_book.specs.Book.{Book}
+use Rattle.switchboard.specs.Book.{Book}
 use Rattle.switchboard.specs.Board.{Board, book_at}
 use Rattle.lease_desk.specs.Desk.{GoesOn, owner_at}
 use Rattle.lease_desk.proofs.InStep.{same_or_other}

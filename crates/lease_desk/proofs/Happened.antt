@@ -10,11 +10,11 @@ use Rattle.lease_core.specs.Lines.{lines_after, lines_of}
 use Rattle.lease_core.specs.Showable.{owner_by}
 use Rattle.lease_core.specs.State.{lease_of, owner_of, state_of}
 use Rattle.lease_words.specs.Views.{EngineView}
-use Rattle.session_book.specs.Acts.{after_binding, after_dial, after_end, after_lapse, after_message, after_ticking}
-use Rattle.session_book.specs.Book.{Book, Desk, with_outbox}
-use Rattle.session_book.specs.Kept.{Kept}
-use Rattle.session_book.specs.Leases.{HasSameLeases}
-use Rattle.session_book.specs.Rereading.{WentOn}
+use Rattle.switchboard.specs.Acts.{after_binding, after_dial, after_end, after_lapse, after_message, after_ticking}
+use Rattle.switchboard.specs.Book.{Book, Desk, with_outbox}
+use Rattle.switchboard.specs.Kept.{Kept}
+use Rattle.switchboard.specs.Leases.{HasSameLeases}
+use Rattle.switchboard.specs.Rereading.{WentOn}
 use Rattle.switchboard.specs.Board.{Board, book_at, connection_at, desk_at, desk_with, no_session, session_at}
 use Rattle.switchboard.specs.Happenings.{BindsTo, EndsBound, Happening, Happens, accepts, answers, binds, binds_and_ends, dials, ends_bound, ends_unbound, gives, lapses, prepares, receives, requests, reserves, shows, takes, ticks, times_out, writes}
 use Rattle.switchboard.specs.Sound.{IsSound}

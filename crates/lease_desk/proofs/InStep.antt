@@ -14,9 +14,9 @@ use Rattle.lease_core.specs.declared.messages.Reply.TheVariants.{Granted, Refuse
 use Rattle.lease_words.specs.Sees.{after_grant}
 use Rattle.lease_words.specs.declared.view.EngineSession.{EngineSession}
 use Rattle.lease_words.specs.Views.{EngineView, engine_at, no_engine_session, pending, with_engine_at}
-use Rattle.session_book.specs.Acts.{after_request}
-use Rattle.session_book.specs.Book.{Book}
-use Rattle.session_book.specs.Kept.{Kept}
+use Rattle.switchboard.specs.Acts.{after_request}
+use Rattle.switchboard.specs.Book.{Book}
+use Rattle.switchboard.specs.Kept.{Kept}
 use Rattle.switchboard.specs.Board.{Board, DeskChanges, book_at, no_session, session_at, with_session}
 use Rattle.switchboard.specs.Sound.{IsSound, bound_of}
 use Rattle.lease_desk.specs.Desk.{Agrees, IsInStep}

@@ -4,7 +4,7 @@ use Rattle.std.proofs.lemmas.List.{set-get_or}
 use Rattle.fix_fields.specs.Fit.{unfit_at}
 use Rattle.fix_fields.specs.declared.limits.TheConstants.{LONGEST_APPLICATION_BODY}
 use Rattle.fix_fields.specs.Frame.{IsBody}
-use Rattle.session_book.specs.Fit.{IsFit}
+use Rattle.switchboard.specs.Fit.{IsFit}
 use Rattle.lease_words.specs.declared.item.Item.{Item}
 use Rattle.lease_words.specs.declared.view.EngineSession.{EngineSession}
 use Rattle.lease_words.specs.Sees.{after_take}

@@ -12,7 +12,7 @@ use Rattle.lease_words.specs.declared.item.Item.{Item}
 use Rattle.lease_words.specs.declared.view.EngineSession.{EngineSession}
 use Rattle.lease_words.specs.Sees.{after_grant, after_look, after_revoke, after_take}
 use Rattle.lease_words.specs.Views.{EngineView, engine_at, last_library, pending, with_engine_at}
-use Rattle.session_book.specs.Words.{after_timeout, after_word}
+use Rattle.switchboard.specs.Words.{after_timeout, after_word}
 use Rattle.switchboard.specs.Board.{Board, DeskChanges, book_at, desk_at, outlet_at, place_at, session_at}
 use Rattle.switchboard.specs.Happenings.{Happening, Happens, Reaches, requests, reserves, shows, times_out}
 use Rattle.switchboard.specs.Sound.{IsSound, bound_of}

@@ -7,7 +7,7 @@ ghost use Rattle.lease_words.specs.Facts.{OthersTaken};
 ghost use Rattle.lease_words.specs.Leases.{Each, is_running};
 ghost use Rattle.lease_words.specs.Tells.{IsSettled};
 ghost use Rattle.lease_words.specs.Views.{engine_at, pending};
-ghost use Rattle.session_book.specs.Fit.{IsFit};
+ghost use Rattle.switchboard.specs.Fit.{IsFit};
 ghost use Rattle.switchboard.specs.Board.{book_at, place_at};
 ghost use Rattle.switchboard.specs.Stops.{NothingIsTold};
 
@@ -16,9 +16,9 @@ use fix_fields::laws::fit_bodies_are_bodies;
 use gate_io::{Bytes, LAST_MOMENT, NoMemory};
 use lease_core::laws::lines_tell_the_owner;
 use lease_words::{EngineSeat, LANE_SLOTS, Leases};
-use session_core::MOST_SESSIONS;
 use std::alloc::Global;
 use std::collections::VecDeque;
+use switchboard::MOST_SESSIONS;
 use switchboard::laws::{boards_stay_sound, stops_are_told};
 
 impl LeaseDesk {

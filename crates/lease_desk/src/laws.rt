@@ -12,8 +12,7 @@ ghost use Rattle.switchboard.specs.Happenings.{Happening, Happens};
 ghost use Rattle.switchboard.specs.Ready.{IsReady};
 
 use lease_core::laws::{lines_go_on, lines_tell_the_owner};
-use session_book::laws::{leases_stay, sessions_go_on};
-use switchboard::laws::boards_stay_ready;
+use switchboard::laws::{boards_stay_ready, leases_stay, sessions_go_on};
 
 /// The journal of a session and the seat go on agreeing, whatever happens to others.
 pub fn agreement_stays()

@@ -6,7 +6,7 @@ ghost use Rattle.lease_core.specs.Lines.{lines_after_reply, lines_of};
 ghost use Rattle.lease_core.specs.State.{state_of};
 ghost use Rattle.lease_core.specs.Steps.{IsLibrary, reply_to};
 ghost use Rattle.lease_desk.specs.Desk.{Agrees, IsGrant, IsInStep, OnGranted, seat_after_reply};
-ghost use Rattle.session_book.specs.Acts.{after_request};
+ghost use Rattle.switchboard.specs.Acts.{after_request};
 ghost use Rattle.switchboard.specs.Happenings.{Happens, requests};
 ghost use Rattle.switchboard.specs.Board.{book_at, session_at, with_session};
 ghost use Rattle.switchboard.specs.Stops.{NothingIsTold};

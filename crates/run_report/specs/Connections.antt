@@ -2,7 +2,7 @@
 use Rattle.std.specs.Prelude.{ℕ, List, [], ◌∷◌, ◌++◌, length, take, drop, decimal, codes, Option, None, Some}
 use Rattle.connection_core.specs.declared.records.ConnRecord.{ConnRecord}
 use Rattle.gate_io.specs.declared.wires.TheConstants.{FIRST_DIALLED}
-use Rattle.library_desk.specs.declared.desk.Stray.{Stray}
+use Rattle.engine_end.specs.Stray.{Stray}
 use Rattle.script_text.specs.Printed.{printed_text}
 use Rattle.session_core.specs.declared.causes.Cause.{Cause}
 use Rattle.session_core.specs.declared.causes.Cause.TheVariants.{End, ReadFault, WriteFault, NotLogon, NoSuchSession, Duplicate, BadLogon, NoNumber, LowNumber, CompId, Silent, LoggedOut, SlowConsumer}

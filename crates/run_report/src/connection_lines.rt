@@ -8,8 +8,8 @@ ghost use Rattle.run_report.specs.Lines.{indented_line, numbered_texts, word_tex
 use crate::words::ReportWord::{Number, Printed, Stamp, Word};
 use crate::words::{ReportWord, put_indented, put_line, put_named, put_spaced};
 use connection_core::ConnRecord;
+use engine_end::Stray;
 use gate_io::{FIRST_DIALLED, NoMemory};
-use library_desk::Stray;
 use session_core::Cause;
 
 /// The requests for sessions that weren't configured.

@@ -1,6 +1,6 @@
 -- What a call of a library leaves.
 use Rattle.std.specs.Prelude.{◌≡◌, [], ◌∷◌, ◌++◌}
-use Rattle.library_calls.specs.Calls.{MakesCall}
+pub use Rattle.library_calls.specs.Calls.{Hands, MakesCall, Polls, Releases, Requests, SendsTo}
 use Rattle.run_report.specs.declared.calls.Call.{Call}
 use Rattle.script_run.specs.declared.callers.Caller.{Caller}
 use Rattle.script_text.specs.declared.steps.LibStep.{LibStep}

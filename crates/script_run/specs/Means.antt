@@ -1,11 +1,11 @@
 -- What a script means: the run from its beginning over its steps, and what that leaves.
 use Rattle.std.specs.Prelude.{◌≡◌, ℕ, ◌+◌, true, List, [], ◌∷◌, length, map, slice_get, Some}
 use Rattle.engine_config.specs.declared.config.Config.{Config}
-use Rattle.engine_end.specs.Finishing.{Finishes}
+use Rattle.engine_loop.specs.Finishing.{Finishes}
 use Rattle.engine_loop.specs.Engines.{until_of}
 use Rattle.engine_loop.specs.Starts.{StartsEngineOf}
 use Rattle.engine_loop.specs.declared.engine.Engine.{Engine}
-use Rattle.engine_start.specs.declared.ends.LibraryEnds.{LibraryEnds}
+use Rattle.engine_loop.specs.LibraryEnds.{LibraryEnds}
 use Rattle.gate_io.specs.MemWire.{new_wire}
 use Rattle.gate_io.specs.StepClock.{ClockState}
 use Rattle.lease_words.specs.Tokens.{new_library_seat}

@@ -1,6 +1,6 @@
 -- A run between two lines of a script, and what a line does.
 use Rattle.std.specs.Prelude.{◌≡◌, ℕ, ◌+◌, ◌-◌, false, List, [], length, slice_get, slice_set, Some}
-use Rattle.engine_end.specs.Meeting.{RingsMeet, SeatsMeet}
+use Rattle.engine_loop.specs.Meeting.{RingsMeet, SeatsMeet}
 use Rattle.engine_loop.specs.Engines.{IsAtWork, IsEngine, IsOnline}
 use Rattle.engine_loop.specs.Turns.{MakesTurn, at_wire}
 use Rattle.engine_loop.specs.declared.engine.Engine.{Engine}

@@ -4,7 +4,7 @@ ghost use Rattle.std.specs.Prelude.{◌≡◌, ◌≤◌, IfErr, IfOk, false, le
 ghost use Rattle.std.specs.List.{All};
 ghost use Rattle.run_report.specs.Records.{no_run};
 ghost use Rattle.script_run.specs.Stops.{LeadsInPart, MeansInPart};
-ghost use Rattle.engine_end.specs.Records.{HasLawfulJournal};
+ghost use Rattle.engine_loop.specs.Records.{HasLawfulJournal};
 ghost use Rattle.script_run.specs.Comes.{FitBehind};
 ghost use Rattle.script_run.specs.Means.{LeadsTo, Means, first_moment};
 ghost use Rattle.script_run.specs.Runs.{IsRunning};
@@ -13,7 +13,7 @@ ghost use Rattle.script_text.specs.Lawful.{IsLawful};
 use crate::leaving::LibraryRoom;
 use crate::run::Run;
 use crate::starting::start;
-use engine_end::EngineRecord;
+use engine_loop::EngineRecord;
 use gate_io::{NoMemory, Rows};
 use library_desk::Shared;
 use run_report::RunRecord;

@@ -7,13 +7,13 @@ ghost use Rattle.gate_io.specs.MemWire.{ChangesLink, IsMade, LinkState, SameButR
 ghost use Rattle.script_run.specs.Comes.{ComesAs, FitsOn, next_of};
 ghost use Rattle.script_text.specs.Lawful.{IsMade as IsNumbered};
 ghost use Rattle.script_text.specs.SoFar.{numbers_with};
-ghost use Rattle.wire_desk.specs.Lines.{StaysKnown};
+ghost use Rattle.engine_loop.specs.Lines.{StaysKnown};
 
+use engine_loop::laws::wires_stay_known;
 use fix_frame::{FrameError, write_frame};
 use gate_io::{MemWire, NoMemory};
 use script_text::Step;
 use std::alloc::Global;
-use wire_desk::laws::wires_stay_known;
 
 /// The room for written bytes that each connection has at the beginning of a turn.
 const ROOM: usize = 1_048_576;

@@ -3,7 +3,7 @@
 ghost use Rattle.std.specs.Prelude.{◌≡◌, ◌≤◌, [], IfErr, IfOk, length, map, vec_capacity};
 ghost use Rattle.std.specs.List.{All};
 ghost use Rattle.script_run.specs.Stops.{LeavesInPart};
-ghost use Rattle.engine_end.specs.Records.{HasLawfulJournal};
+ghost use Rattle.engine_loop.specs.Records.{HasLawfulJournal};
 ghost use Rattle.lease_words.specs.Views.{LibraryView};
 ghost use Rattle.script_run.specs.Means.{Leaves, report_of, seat_of};
 ghost use Rattle.script_run.specs.Runs.{IsRunning};

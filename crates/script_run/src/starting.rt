@@ -2,18 +2,18 @@
 
 ghost use Rattle.std.specs.Prelude.{◌≡◌, ◌≤◌, ℕ, IfOk, Some, false, length, slice_get};
 ghost use Rattle.engine_config.specs.Config.{IsConfig};
-ghost use Rattle.engine_start.specs.Starts.{AreLibraryEnds};
+ghost use Rattle.engine_loop.specs.Starts.{AreLibraryEnds};
 ghost use Rattle.gate_io.specs.declared.clocks.TheConstants.{LAST_MOMENT};
 ghost use Rattle.script_run.specs.Comes.{next_of};
 ghost use Rattle.script_run.specs.Means.{StartsAll, StartsCaller, StartsRun};
 ghost use Rattle.script_run.specs.Runs.{IsRunning};
-ghost use Rattle.engine_start.specs.declared.ends.LibraryEnds.{LibraryEnds as TheEnds};
+ghost use Rattle.engine_loop.specs.LibraryEnds.{LibraryEnds as TheEnds};
 ghost use Rattle.script_text.specs.SoFar.{first_numbers};
 
 use crate::callers::Caller;
 use crate::run::Run;
 use engine_config::Config;
-use engine_start::LibraryEnds;
+use engine_loop::LibraryEnds;
 use gate_io::{MemWire, NoMemory, StepClock};
 use library_api::{Library, LibraryEnds2};
 use library_desk::Shared;

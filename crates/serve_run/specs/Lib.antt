@@ -5,3 +5,6 @@ pub mod Drives
 pub mod Meetings
 pub mod Serves
 pub mod Stops
+pub use Rattle.plan_runner.specs.Ends
+pub use Rattle.plan_runner.specs.Lines
+pub use Rattle.plan_runner.specs.Turns

@@ -1,7 +1,7 @@
 -- The engine and the libraries meet, once, behind their work.
 use Rattle.std.specs.Prelude.{◌≡◌, ℕ, List, length, slice_get, slice_set, Some}
 use Rattle.std.specs.List.{All}
-use Rattle.engine_end.specs.Meeting.{RingsMeet, SeatsMeet}
+use Rattle.engine_loop.specs.Meeting.{RingsMeet, SeatsMeet}
 use Rattle.engine_loop.specs.declared.engine.Engine.{Engine}
 use Rattle.lease_desk.specs.Desk.{InTurn}
 use Rattle.library_desk.specs.declared.shared.Shared.{Shared}

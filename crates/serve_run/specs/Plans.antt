@@ -1,6 +1,7 @@
 -- A library's plan, as a script has it.
 use Rattle.std.specs.Prelude.{◌≡◌, ◌==◌, ℕ, ◌+◌, List, slice_get, Some}
 use Rattle.std.specs.List.{filter}
+pub use Rattle.plan_runner.specs.Plans.{CarriesLineAt, CarriesLines, PlanStands, first_stage}
 use Rattle.script_text.specs.declared.steps.Step.{Step}
 use Rattle.script_text.specs.declared.steps.Step.TheVariants as step
 

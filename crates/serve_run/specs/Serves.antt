@@ -2,7 +2,7 @@
 use Rattle.std.specs.Prelude.{◌≡◌, ℕ, ◌+◌, ◌≤◌, min, Bool, true, false, if◌then◌else◌, List, [], ◌∷◌, length, map, Option, Some, None}
 use Rattle.std.specs.List.{All}
 use Rattle.engine_config.specs.declared.config.Config.{Config}
-use Rattle.engine_end.specs.Finishing.{Finishes}
+use Rattle.engine_loop.specs.Finishing.{Finishes}
 use Rattle.engine_loop.specs.Engines.{until_of}
 use Rattle.engine_loop.specs.Turns.{AtWire, at_wire}
 use Rattle.engine_loop.specs.declared.engine.Engine.{Engine}

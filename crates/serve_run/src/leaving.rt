@@ -3,8 +3,8 @@
 ghost use Rattle.std.specs.Prelude.{◌≡◌, ◌≤◌, [], IfErr, IfOk, length, map, vec_capacity};
 ghost use Rattle.std.specs.List.{All};
 ghost use Rattle.std.specs.Prelude.{ℕ};
-ghost use Rattle.engine_end.specs.Finishing.{Finishes};
-ghost use Rattle.engine_end.specs.Records.{HasLawfulJournal};
+ghost use Rattle.engine_loop.specs.Finishing.{Finishes};
+ghost use Rattle.engine_loop.specs.Records.{HasLawfulJournal};
 ghost use Rattle.engine_loop.specs.Engines.{IsEngine, until_of};
 ghost use Rattle.gate_io.specs.Wire.{Door, Link};
 ghost use Rattle.engine_loop.specs.Leaving.{LeavesAsItStood};

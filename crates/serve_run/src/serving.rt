@@ -2,10 +2,10 @@
 
 ghost use Rattle.std.specs.Prelude.{◌≡◌, ◌≤◌, ℕ, IfErr, IfOk, IsErr, OnErr, OnOk, Some, false, true, length, slice_get, ◌⊎◌};
 ghost use Rattle.std.specs.List.{All};
-ghost use Rattle.engine_end.specs.Records.{HasLawfulJournal};
+ghost use Rattle.engine_loop.specs.Records.{HasLawfulJournal};
 ghost use Rattle.engine_loop.specs.Engines.{IsEngine};
-ghost use Rattle.engine_start.specs.Starts.{AreLibraryEnds};
-ghost use Rattle.engine_start.specs.declared.ends.LibraryEnds.{LibraryEnds as TheEnds};
+ghost use Rattle.engine_loop.specs.Starts.{AreLibraryEnds};
+ghost use Rattle.engine_loop.specs.LibraryEnds.{LibraryEnds as TheEnds};
 ghost use Rattle.gate_io.specs.Clock.{TakesReadings};
 ghost use Rattle.gate_io.specs.Wire.{Door, Link};
 ghost use Rattle.run_report.specs.Records.{no_run};
@@ -23,9 +23,7 @@ use crate::side_by_side::run_all;
 use crate::starting::workers;
 use crate::workers::Worker;
 use engine_config::Config;
-use engine_end::EngineRecord;
-use engine_loop::{Engine, start};
-use engine_start::LibraryEnds;
+use engine_loop::{Engine, EngineRecord, LibraryEnds, start};
 use gate_io::{Clock, Dial, Gate, LAST_MOMENT, NoMemory, Rows};
 use library_desk::Shared;
 use run_report::{LibReport, RunRecord};

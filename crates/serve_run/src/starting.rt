@@ -1,12 +1,12 @@
 //! The libraries of a run begin.
 
 ghost use Rattle.std.specs.Prelude.{◌≡◌, ◌≤◌, ℕ, [], IfOk, Some, length, slice_get};
-ghost use Rattle.engine_start.specs.Starts.{AreLibraryEnds};
-ghost use Rattle.engine_start.specs.declared.ends.LibraryEnds.{LibraryEnds as TheEnds};
+ghost use Rattle.engine_loop.specs.Starts.{AreLibraryEnds};
+ghost use Rattle.engine_loop.specs.LibraryEnds.{LibraryEnds as TheEnds};
 ghost use Rattle.serve_run.specs.Workers.{StartsWorker, StartsWorkers};
 
 use crate::workers::Worker;
-use engine_start::LibraryEnds;
+use engine_loop::LibraryEnds;
 use gate_io::{NoMemory, Rows};
 use library_api::{Library, LibraryEnds2};
 use library_desk::Shared;

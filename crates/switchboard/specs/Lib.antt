@@ -11,3 +11,7 @@ pub use Rattle.connection_core.specs.Connection
 pub use Rattle.session_book.specs.Book
 pub use Rattle.session_book.specs.Kept
 pub use Rattle.session_book.specs.Acts
+pub use Rattle.session_book.specs.Fit
+pub use Rattle.session_book.specs.Words
+pub use Rattle.session_book.specs.Leases
+pub use Rattle.session_book.specs.Rereading

@@ -21,9 +21,8 @@ ghost use Rattle.switchboard.specs.Stops.{HaveSameSessions, NothingIsTold, Stops
 ghost use Rattle.switchboard.specs.Told.{ComeInOrder, History, IsTold, history_after, history_over, machines_of, moment_after, moment_over, no_history};
 
 use connection_core::items_stay_queued;
-use session_book::laws::{
-    beats_come_in_time, leases_stay, sends_are_told, sessions_go_on, texts_are_told, texts_stay,
-};
+pub use session_book::laws::{leases_stay, sessions_go_on};
+use session_book::laws::{beats_come_in_time, sends_are_told, texts_are_told, texts_stay};
 
 /// Sessions and connections stay sound: each session is bound to a connection just where it has a
 /// place, and that stands and names it.

@@ -14,3 +14,4 @@ mod messages;
 mod writing;
 
 pub use board::Switchboard;
+pub use session_core::MOST_SESSIONS;

@@ -3,7 +3,7 @@ use Rattle.std.proofs.Common.{◌≡◌, ℕ, zero, suc, ◌+◌, ◌-◌, ◌<�
 use Rattle.std.proofs.lemmas.List.{length-replicate}
 use Rattle.std.specs.Prelude.{replicate, slice_index_or}
 use Rattle.engine_config.specs.declared.config.Config.{Config}
-use Rattle.engine_start.specs.Starts.{StartsDesk, StartsSessions, StartsTable}
+use Rattle.engine_loop.specs.Starts.{StartsDesk, StartsSessions, StartsTable}
 use Rattle.lease_core.specs.Lines.{lines_of}
 use Rattle.lease_core.specs.State.{state_of}
 use Rattle.lease_core.specs.declared.lease.Line.{Line}

@@ -19,7 +19,7 @@ use Rattle.connection_core.specs.Record.{record_of}
 use Rattle.engine_config.specs.declared.config.Config.{Config}
 use Rattle.engine_end.specs.Records.{SessionLeft, accepted_of, connection_records, dialled_of, left_in, left_of}
 use Rattle.engine_loop.specs.declared.engine.Engine.{Engine}
-use Rattle.engine_start.specs.Starts.{StartsSessions}
+use Rattle.engine_loop.specs.Starts.{StartsSessions}
 use Rattle.gate_io.specs.Clock.{greatest_of}
 use Rattle.gate_io.specs.declared.clocks.TheConstants.{LAST_MOMENT}
 use Rattle.lease_core.specs.declared.entry.Entry.{Entry}

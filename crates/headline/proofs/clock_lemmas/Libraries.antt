@@ -9,7 +9,7 @@ use Rattle.headline.proofs.Walking.{each_in_turn}
 use Rattle.headline.proofs.clock_lemmas.Lines as lines
 use Rattle.headline.proofs.clock_lemmas.Lines.{GoesOnInTime, IsCalm}
 use Rattle.engine_config.specs.declared.config.Config.{Config}
-use Rattle.engine_start.specs.Starts.{StartsDesk, StartsEngine}
+use Rattle.engine_loop.specs.Starts.{StartsDesk, StartsEngine}
 use Rattle.lease_core.specs.declared.messages.Notice.{Notice}
 use Rattle.lease_desk.specs.Desk.{InTurn, TakesBack, TakesBackFrom, bodies_of}
 use Rattle.lease_desk.specs.declared.desk.LeaseDesk.{LeaseDesk}

@@ -35,7 +35,7 @@ use Rattle.headline.specs.runs.Lives.{IsKeptAs, SeatStays}
 use Rattle.headline.proofs.run_lemmas.Seats.{AreKnown, SeatKeeps, asked_keeps, event_known, given_keeps, held_there, last_known, loaded_keeps, lost_keeps, lost_known, lost_sending_keeps, none_known, one_keeps, polled_keeps, seat_itself, sent_keeps}
 use Rattle.run_report.specs.declared.calls.Call.{Call as Kept}
 use Rattle.run_report.specs.declared.calls.Call.TheVariants as calls
-use Rattle.library_calls.specs.Calls.{Hands, MakesCall, Polls, Releases, Requests, SendsTo}
+use Rattle.script_run.specs.Calls.{Hands, MakesCall, Polls, Releases, Requests, SendsTo}
 use Rattle.script_text.specs.declared.steps.LibStep.{LibStep}
 use Rattle.script_text.specs.declared.steps.LibStep.TheVariants as act
 

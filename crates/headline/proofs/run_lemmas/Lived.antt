@@ -24,7 +24,7 @@ use Rattle.library_api.specs.Known.{Known, new_library}
 use Rattle.library_api.specs.Laws.{RequestsAreNumbered}
 use Rattle.library_api.specs.Replies.{AreReplies, HoldsThroughout, replies_in}
 use Rattle.library_api.specs.Requests.{after_done}
-use Rattle.library_calls.specs.Calls.{MakesCall}
+use Rattle.script_run.specs.Calls.{MakesCall}
 use Rattle.library_desk.specs.declared.desk.LibraryDesk.{LibraryDesk}
 use Rattle.library_desk.specs.declared.ends.EngineEnds.{EngineEnds}
 use Rattle.library_desk.specs.declared.shared.Shared.{Shared}

@@ -5,7 +5,7 @@ use Rattle.std.specs.Prelude.{◌≤◌, slice_index_or}
 use Rattle.engine_config.specs.declared.config.Config.{Config}
 use Rattle.engine_loop.specs.declared.engine.Engine.{Engine}
 use Rattle.engine_laws.specs.Account.{IsAccountedFor}
-use Rattle.engine_start.specs.Starts.{StartsSessions, configured_book}
+use Rattle.engine_loop.specs.Starts.{StartsSessions, configured_book}
 use Rattle.engine_config.specs.Config.{dial_of, names_of}
 use Rattle.lease_core.specs.State.{owner_of, state_of}
 use Rattle.lease_core.specs.declared.entry.Entry.{Entry}

@@ -4,11 +4,11 @@ use Rattle.lease_core.specs.declared.messages.Command.{Command}
 use Rattle.lease_core.specs.declared.messages.Command.TheVariants as commands
 use Rattle.library_api.specs.Known.{Known}
 use Rattle.library_api.specs.Requests.{after_done}
-use Rattle.library_calls.specs.Calls.{MakesCall}
-use Rattle.plan_runner.specs.Ends.{EndsPlan, FindsFull, RunsPlan, Tells, TellsDone}
-use Rattle.plan_runner.specs.Lines.{call_of, is_vain}
-use Rattle.plan_runner.specs.Plans.{CarriesLineAt, CarriesLines, PlanStands, first_stage}
-use Rattle.plan_runner.specs.Turns.{Advances, IsUnderWay, Reports, Stage, StandsFor, Times, WaitsOnce, begun}
+use Rattle.script_run.specs.Calls.{MakesCall}
+use Rattle.serve_run.specs.Ends.{EndsPlan, FindsFull, RunsPlan, Tells, TellsDone}
+use Rattle.serve_run.specs.Lines.{call_of, is_vain}
+use Rattle.serve_run.specs.Plans.{CarriesLineAt, CarriesLines, PlanStands, first_stage}
+use Rattle.serve_run.specs.Turns.{Advances, IsUnderWay, Reports, Stage, StandsFor, Times, WaitsOnce, begun}
 use Rattle.ring_links.specs.declared.queue.Full.{Full}
 use Rattle.headline.specs.runs.Lives.{HasLived, IsInVain, IsReportedAs, Life, SeatStays}
 use Rattle.run_report.specs.declared.calls.Call.{Call as Kept}

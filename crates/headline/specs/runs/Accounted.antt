@@ -8,7 +8,7 @@ use Rattle.engine_end.specs.Records.{IsLeftBy}
 use Rattle.engine_laws.specs.Account.{IsAccountedFor}
 use Rattle.engine_loop.specs.Engines.{until_of}
 use Rattle.engine_loop.specs.declared.engine.Engine.{Engine}
-use Rattle.engine_start.specs.Starts.{configured_book}
+use Rattle.engine_loop.specs.Starts.{configured_book}
 use Rattle.gate_io.specs.MemWire.{link_at}
 use Rattle.gate_io.specs.Wire.{Link}
 use Rattle.lease_core.specs.Lines.{IsShown, lines_of}

@@ -11,7 +11,7 @@ use Rattle.library_api.specs.Polls.{event_of}
 use Rattle.library_api.specs.Replies.{AreReplies, HoldsThroughout}
 use Rattle.library_desk.specs.declared.desk.LibraryDesk.{LibraryDesk}
 use Rattle.library_desk.specs.declared.ends.EngineEnds.{EngineEnds}
-use Rattle.plan_runner.specs.Lines.{has_no_room, is_idle_poll}
+use Rattle.serve_run.specs.Lines.{has_no_room, is_idle_poll}
 use Rattle.ring_links.specs.declared.queue.Full.{Full}
 use Rattle.script_run.specs.declared.callers.Caller.{Caller}
 use Rattle.script_run.specs.declared.run.Run.{Run}

@@ -3,7 +3,7 @@ use Rattle.std.proofs.lemmas.List.{length_push}
 use Rattle.std.proofs.lemmas.List.Elements.{All-push}
 use Rattle.std.proofs.lemmas.Grind.{common_steps}
 use Rattle.std.specs.List.{All}
-use Rattle.session_book.specs.Fit.{IsFit}
+use Rattle.switchboard.specs.Fit.{IsFit}
 use Rattle.lease_desk.specs.Desk.{TakesItems}
 use Rattle.lease_desk.proofs.Takes.{item_fit, next_take}
 use Rattle.lease_desk.proofs.gathering.take_all.Goals as goal

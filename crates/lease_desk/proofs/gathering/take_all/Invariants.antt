@@ -5,7 +5,7 @@ use Rattle.lease_words.specs.Facts.{OthersTaken}
 use Rattle.lease_words.specs.Leases.{Each}
 use Rattle.lease_words.specs.Tells.{IsSettled}
 use Rattle.lease_words.specs.Views.{engine_at, pending}
-use Rattle.session_book.specs.Fit.{IsFit}
+use Rattle.switchboard.specs.Fit.{IsFit}
 use Rattle.lease_desk.specs.Desk.{TakesItems}
 use Rattle.lease_desk.proofs.gathering.take_all.Given as goal
 

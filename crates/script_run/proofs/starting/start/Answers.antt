@@ -1,6 +1,6 @@
 use Rattle.std.proofs.Common.{◌≡◌, ◌≤◌, List, length, refl, subst, sym, ap, ◌∙◌, arith}
 use Rattle.connection_core.specs.Connection.{ConnectionState}
-use Rattle.engine_end.specs.Room.{Room}
+use Rattle.engine_loop.specs.Room.{Room}
 use Rattle.engine_loop.specs.Engines.{IsEngine}
 use Rattle.gate_io.specs.MemWire.{WireState, door_of, link_at}
 use Rattle.script_run.proofs.starting.start.Goals as goal

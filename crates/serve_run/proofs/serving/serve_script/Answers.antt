@@ -1,7 +1,7 @@
 use Rattle.std.proofs.Common.{◌≡◌, inl, inr, ◌∷◌, ◌≤◌, Bool, List, [], length, refl, ap, subst, sym, ◌∙◌, arith}
 use Rattle.std.proofs.lemmas.Option.{slice_get-get_or}
 use Rattle.std.proofs.lemmas.Result.{IfErr-weaker}
-use Rattle.engine_end.specs.Room.{Room}
+use Rattle.engine_loop.specs.Room.{Room}
 use Rattle.engine_loop.specs.Turns.{at_wire}
 use Rattle.gate_io.specs.Clock.{TakesReadings}
 use Rattle.run_report.specs.declared.records.RunRecord.{RunRecord}

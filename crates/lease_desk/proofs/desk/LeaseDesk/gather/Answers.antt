@@ -5,7 +5,7 @@ use Rattle.lease_words.specs.Facts.{OthersTaken}
 use Rattle.lease_words.specs.Leases.{Each}
 use Rattle.lease_words.specs.Tells.{IsSettled}
 use Rattle.lease_words.specs.Views.{EngineView, engine_at, pending}
-use Rattle.session_book.specs.Book.{Desk}
+use Rattle.switchboard.specs.Book.{Desk}
 use Rattle.switchboard.specs.Board.{book_at, place_at}
 use Rattle.lease_words.specs.Sees.{after_look}
 use Rattle.lease_desk.specs.Desk.{after_takes}

@@ -2,7 +2,7 @@ use Rattle.std.proofs.Common.{◌≤◌, length, sym, ap, subst, ◌∙◌, arit
 use Rattle.lease_core.specs.Lines.{lines_of}
 use Rattle.lease_core.specs.Runs.{IsRun}
 use Rattle.lease_words.specs.Leases.{is_running}
-use Rattle.session_book.specs.Kept.{IsBook, Kept}
+use Rattle.switchboard.specs.Kept.{IsBook, Kept}
 use Rattle.lease_desk.specs.Desk.{IsGrant, OnGranted}
 use Rattle.switchboard.specs.Board.{book_at, session_at}
 use Rattle.switchboard.specs.Sound.{IsSound, bound_of}
@@ -11,7 +11,7 @@ use Rattle.lease_desk.proofs.InStep.{granted_agrees, refused_agrees, request_bou
 use Rattle.lease_desk.proofs.Takes.{seat_same}
 use Rattle.lease_words.specs.Sees.{after_grant}
 use Rattle.lease_words.specs.Views.{engine_at}
-use Rattle.session_book.specs.Book.{Book}
+use Rattle.switchboard.specs.Book.{Book}
 use Rattle.lease_desk.proofs.desk.LeaseDesk.request.Goals as goal
 
 pub grant-requires-clause-room : goal.grant-requires-clause-room

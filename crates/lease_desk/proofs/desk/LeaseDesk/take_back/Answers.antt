@@ -2,7 +2,7 @@ use Rattle.std.proofs.Common.{length, ap, ◌∙◌}
 use Rattle.lease_core.specs.Lines.{lines_of, missing_sends, raised, taken_back}
 use Rattle.lease_words.specs.Leases.{is_running}
 use Rattle.lease_words.specs.Views.{engine_at, pending}
-use Rattle.session_book.specs.Book.{Desk}
+use Rattle.switchboard.specs.Book.{Desk}
 use Rattle.switchboard.specs.Board.{book_at, place_at}
 use Rattle.lease_words.specs.Sees.{after_revoke}
 use Rattle.lease_desk.specs.Desk.{after_takes}

@@ -1,6 +1,6 @@
 use Rattle.std.proofs.Common.{add-one, ap, below_more, sym, ◌∙◌, arith}
 use Rattle.lease_core.specs.State.{owner_of, state_of}
-use Rattle.session_book.specs.Book.{Book}
+use Rattle.switchboard.specs.Book.{Book}
 use Rattle.lease_desk.specs.Desk.{TakesBackSome}
 use Rattle.lease_desk.proofs.GoingOn.{goes_on_further, on_err}
 use Rattle.lease_desk.proofs.desk.LeaseDesk.take_back_all.Goals as goal
