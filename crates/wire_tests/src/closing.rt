@@ -1,5 +1,6 @@
 //! How connections end.
 
+use crate::checks::same;
 use crate::sides::{address_of, listening, settle};
 use gate_io::{Accepted, Dial, Dialled, Wire, WireGot, WireWrote};
 use std::test::Fail;
@@ -10,17 +11,17 @@ fn the_input_ends_behind_its_bytes(rt: HostRuntime) -> Result<(), Fail> {
     let mut client = listening(rt)?;
     let address = address_of(rt, &gateway)?;
     let mut buf = [0u8; 8];
-    assert_eq!(rt; client.dial(address.as_str()), Dialled::New(1024));
+    same(&rt, &client.dial(address.as_str()), &Dialled::New(1024));
     settle(&mut client);
-    assert_eq!(rt; client.write(1024, b"bye"), WireWrote::Bytes(3));
+    same(&rt, &client.write(1024, b"bye"), &WireWrote::Bytes(3));
     client.close(1024);
     settle(&mut gateway);
-    assert_eq!(rt; gateway.accept(), Accepted::New(0));
-    assert_eq!(rt; gateway.read(0, &mut buf), WireGot::Bytes(3));
-    assert_eq!(rt; gateway.read(0, &mut buf), WireGot::End);
-    assert_eq!(rt; gateway.read(0, &mut buf), WireGot::End);
+    same(&rt, &gateway.accept(), &Accepted::New(0));
+    same(&rt, &gateway.read(0, &mut buf), &WireGot::Bytes(3));
+    same(&rt, &gateway.read(0, &mut buf), &WireGot::End);
+    same(&rt, &gateway.read(0, &mut buf), &WireGot::End);
     // The client still takes bytes, and drops them.
-    assert_eq!(rt; gateway.write(0, b"bye"), WireWrote::Bytes(3));
+    same(&rt, &gateway.write(0, b"bye"), &WireWrote::Bytes(3));
     gateway.close(0);
     settle(&mut client);
     client.finish();
@@ -34,22 +35,22 @@ fn last_bytes_come_through_though_input_was_left(rt: HostRuntime) -> Result<(), 
     let mut client = listening(rt)?;
     let address = address_of(rt, &gateway)?;
     let mut buf = [0u8; 8];
-    assert_eq!(rt; client.dial(address.as_str()), Dialled::New(1024));
+    same(&rt, &client.dial(address.as_str()), &Dialled::New(1024));
     settle(&mut client);
-    assert_eq!(rt; client.write(1024, b"unread"), WireWrote::Bytes(6));
+    same(&rt, &client.write(1024, b"unread"), &WireWrote::Bytes(6));
     settle(&mut gateway);
-    assert_eq!(rt; gateway.accept(), Accepted::New(0));
-    assert_eq!(rt; gateway.write(0, b"logout"), WireWrote::Bytes(6));
+    same(&rt, &gateway.accept(), &Accepted::New(0));
+    same(&rt, &gateway.write(0, b"logout"), &WireWrote::Bytes(6));
     gateway.close(0);
     // Also bytes that come behind the close reset nothing.
-    assert_eq!(rt; client.write(1024, b"late"), WireWrote::Bytes(4));
+    same(&rt, &client.write(1024, b"late"), &WireWrote::Bytes(4));
     settle(&mut gateway);
-    assert_eq!(rt; client.write(1024, b"later"), WireWrote::Bytes(5));
+    same(&rt, &client.write(1024, b"later"), &WireWrote::Bytes(5));
     settle(&mut gateway);
     settle(&mut client);
-    assert_eq!(rt; client.read(1024, &mut buf), WireGot::Bytes(6));
-    assert_eq!(rt; &buf[..6], b"logout".as_slice());
-    assert_eq!(rt; client.read(1024, &mut buf), WireGot::End);
+    same(&rt, &client.read(1024, &mut buf), &WireGot::Bytes(6));
+    same(&rt, &&buf[..6], &b"logout".as_slice());
+    same(&rt, &client.read(1024, &mut buf), &WireGot::End);
     client.close(1024);
     gateway.finish();
     Ok(())
@@ -61,15 +62,15 @@ fn a_run_ends_though_a_counterparty_stays(rt: HostRuntime) -> Result<(), Fail> {
     let mut client = listening(rt)?;
     let address = address_of(rt, &gateway)?;
     let mut buf = [0u8; 8];
-    assert_eq!(rt; client.dial(address.as_str()), Dialled::New(1024));
+    same(&rt, &client.dial(address.as_str()), &Dialled::New(1024));
     settle(&mut client);
-    assert_eq!(rt; client.write(1024, b"unread"), WireWrote::Bytes(6));
+    same(&rt, &client.write(1024, b"unread"), &WireWrote::Bytes(6));
     settle(&mut gateway);
-    assert_eq!(rt; gateway.accept(), Accepted::New(0));
-    assert_eq!(rt; gateway.write(0, b"logout"), WireWrote::Bytes(6));
+    same(&rt, &gateway.accept(), &Accepted::New(0));
+    same(&rt, &gateway.write(0, b"logout"), &WireWrote::Bytes(6));
     gateway.finish();
     settle(&mut client);
-    assert_eq!(rt; client.read(1024, &mut buf), WireGot::Bytes(6));
-    assert_eq!(rt; client.read(1024, &mut buf), WireGot::End);
+    same(&rt, &client.read(1024, &mut buf), &WireGot::Bytes(6));
+    same(&rt, &client.read(1024, &mut buf), &WireGot::End);
     Ok(())
 }

@@ -1,5 +1,6 @@
 //! Where a wire listens, and what it answers with nobody there.
 
+use crate::checks::{same, same_at};
 use crate::sides::{address_of, listening, settle};
 use gate_io::{Accepted, Dial, Dialled, Listened, Wire, WireGot};
 use std::test::Fail;
@@ -8,9 +9,9 @@ use wire_edge::NetWire;
 #[test]
 fn nothing_before_the_listen(rt: HostRuntime) {
     let mut wire = NetWire::new(rt, rt.alloc());
-    assert_eq!(rt; wire.port(), None);
-    assert_eq!(rt; wire.accept(), Accepted::Nothing);
-    assert_eq!(rt; wire.dial("127.0.0.1:1"), Dialled::Failed);
+    same(&rt, &wire.port(), &None);
+    same(&rt, &wire.accept(), &Accepted::Nothing);
+    same(&rt, &wire.dial("127.0.0.1:1"), &Dialled::Failed);
     wire.pause(1);
     wire.finish();
 }
@@ -19,7 +20,7 @@ fn nothing_before_the_listen(rt: HostRuntime) {
 fn addresses_at_which_nothing_listens(rt: HostRuntime) -> Result<(), Fail> {
     let mut wire = NetWire::new(rt, rt.alloc());
     for address in ["", "127.0.0.1", "127.0.0.1:", "127.0.0.1:65536", ":"] {
-        assert_eq!(rt; wire.listen(address), Listened::Failed, "at {address}");
+        same_at(&rt, &wire.listen(address), &Listened::Failed, &address);
     }
     Ok(())
 }
@@ -29,9 +30,9 @@ fn a_port_is_taken_by_the_first_that_listens(rt: HostRuntime) -> Result<(), Fail
     let first = listening(rt)?;
     let address = address_of(rt, &first)?;
     let mut wire = NetWire::new(rt, rt.alloc());
-    assert_eq!(rt; wire.listen(address.as_str()), Listened::Failed);
-    assert_eq!(rt; wire.listen("127.0.0.1:0"), Listened::Ready);
-    assert_eq!(rt; wire.accept(), Accepted::Nothing);
+    same(&rt, &wire.listen(address.as_str()), &Listened::Failed);
+    same(&rt, &wire.listen("127.0.0.1:0"), &Listened::Ready);
+    same(&rt, &wire.accept(), &Accepted::Nothing);
     Ok(())
 }
 
@@ -39,7 +40,7 @@ fn a_port_is_taken_by_the_first_that_listens(rt: HostRuntime) -> Result<(), Fail
 fn addresses_that_cannot_be_dialled(rt: HostRuntime) -> Result<(), Fail> {
     let mut wire = listening(rt)?;
     for address in ["", "127.0.0.1", "127.0.0.1:", "127.0.0.1:65536", ":"] {
-        assert_eq!(rt; wire.dial(address), Dialled::Failed, "at {address}");
+        same_at(&rt, &wire.dial(address), &Dialled::Failed, &address);
     }
     Ok(())
 }
@@ -51,13 +52,13 @@ fn a_refused_dial_is_a_failed_read(rt: HostRuntime) -> Result<(), Fail> {
     gone.finish();
     let mut wire = listening(rt)?;
     let mut buf = [0u8; 8];
-    assert_eq!(rt; wire.dial(address.as_str()), Dialled::New(1024));
+    same(&rt, &wire.dial(address.as_str()), &Dialled::New(1024));
     settle(&mut wire);
-    assert_eq!(rt; wire.read(1024, &mut buf), WireGot::Failed);
+    same(&rt, &wire.read(1024, &mut buf), &WireGot::Failed);
     wire.close(1024);
     // The next dial is a connection of its own.
-    assert_eq!(rt; wire.dial(address.as_str()), Dialled::New(1025));
+    same(&rt, &wire.dial(address.as_str()), &Dialled::New(1025));
     settle(&mut wire);
-    assert_eq!(rt; wire.read(1025, &mut buf), WireGot::Failed);
+    same(&rt, &wire.read(1025, &mut buf), &WireGot::Failed);
     Ok(())
 }
