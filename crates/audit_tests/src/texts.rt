@@ -1,11 +1,9 @@
 //! Texts that are cut off, that are long, and that are no reports.
 
-use gate_io::NoMemory;
-use journal_audit::{LONGEST_REPORT, Verdict, audit};
-use rand_core::utils::NextWord;
-use rand_pcg::Pcg32;
+use crate::verdicts::names;
+use anyhow::{Context, Result};
+use draws::Draw;
 use std::alloc::{AllocError, Global};
-use std::test::Fail;
 
 /// A report of one session, whose inbound message has this body.
 fn report_with(alloc: Global, body: &[u8]) -> Result<Vec<u8>, AllocError> {
@@ -15,17 +13,6 @@ fn report_with(alloc: Global, body: &[u8]) -> Result<Vec<u8>, AllocError> {
     text.extend_from_slice(body)?;
     text.extend_from_slice(b"\nlibrary 1 reads 0\n poll: nothing\nend\n")?;
     Ok(text)
-}
-
-/// The line that an audit names, or 0 where it says yes.
-fn named_line(alloc: Global, text: &[u8]) -> Result<u32, NoMemory> {
-    if text.len() > LONGEST_REPORT {
-        return Ok(1);
-    }
-    match audit(alloc, text)? {
-        Verdict::Yes => Ok(0),
-        Verdict::No { line } => Ok(line),
-    }
 }
 
 /// How many LF a text has.
@@ -39,60 +26,58 @@ fn line_ends(text: &[u8]) -> u32 {
     ends
 }
 
-#[test]
-fn a_report_is_right(rt: HostRuntime) -> Result<(), Fail> {
-    let text = report_with(rt.alloc(), b"35=D|11=A1|")?;
-    assert_eq!(rt; named_line(rt.alloc(), text.as_slice())?, 0);
-    Ok(())
+pub(crate) fn a_report_is_right(alloc: Global) -> Result<()> {
+    let text = report_with(alloc, b"35=D|11=A1|")?;
+    names(alloc, text.as_slice(), 0)
 }
 
-#[test]
-fn a_report_that_is_cut_off_has_no_end(rt: HostRuntime) -> Result<(), Fail> {
-    let text = report_with(rt.alloc(), b"35=D|11=A1|")?;
+pub(crate) fn a_report_that_is_cut_off_has_no_end(alloc: Global) -> Result<()> {
+    let text = report_with(alloc, b"35=D|11=A1|")?;
     for length in 0..text.len() {
         let cut = &text[..length];
-        let named = named_line(rt.alloc(), cut)?;
-        assert_eq!(rt; named, line_ends(cut).saturating_add(1));
+        let named = names(alloc, cut, line_ends(cut).saturating_add(1));
+        named.context(format_args!("{length} bytes"))?;
     }
     Ok(())
 }
 
-#[test]
-fn a_line_may_be_long(rt: HostRuntime) -> Result<(), Fail> {
-    let body = vec![in rt.alloc(); b'x'; 1_000_000]?;
-    let text = report_with(rt.alloc(), body.as_slice())?;
-    assert_eq!(rt; named_line(rt.alloc(), text.as_slice())?, 0);
-    assert_eq!(rt; named_line(rt.alloc(), body.as_slice())?, 1);
-    Ok(())
+pub(crate) fn a_line_may_be_long(alloc: Global) -> Result<()> {
+    let body = vec![in alloc; b'x'; 1_000_000]?;
+    let text = report_with(alloc, body.as_slice())?;
+    names(alloc, text.as_slice(), 0)?;
+    names(alloc, body.as_slice(), 1)
 }
 
-#[test]
-fn a_long_line_may_be_wrong(rt: HostRuntime) -> Result<(), Fail> {
-    let mut body = vec![in rt.alloc(); b'9'; 1_000_000]?;
+pub(crate) fn a_long_line_may_be_wrong(alloc: Global) -> Result<()> {
+    let mut body = vec![in alloc; b'9'; 1_000_000]?;
     body.push(200)?;
-    let text = report_with(rt.alloc(), body.as_slice())?;
-    assert_eq!(rt; named_line(rt.alloc(), text.as_slice())?, 5);
-    Ok(())
+    let text = report_with(alloc, body.as_slice())?;
+    names(alloc, text.as_slice(), 5)
 }
 
 /// Bytes that look random and are the same in each run.
-fn noise(alloc: Global, rng: &mut Pcg32) -> Result<Vec<u8>, AllocError> {
+fn noise(alloc: Global, draw: &mut Draw) -> Result<Vec<u8>, AllocError> {
     let mut bytes = Vec::new(alloc);
     for _ in 0..300 {
-        bytes.push((rng.next_word() % 256) as u8)?;
+        bytes.push(draw.byte())?;
     }
     Ok(bytes)
 }
 
-#[test]
-fn bytes_at_random_are_no_report(rt: HostRuntime) -> Result<(), Fail> {
-    let mut rng = Pcg32::new(7, 54);
+/// A report's first line, with bytes behind it.
+fn begun(alloc: Global, bytes: &[u8]) -> Result<Vec<u8>, AllocError> {
+    let mut text = Vec::from_slice(alloc, b"fixgate report 1\n")?;
+    text.extend_from_slice(bytes)?;
+    Ok(text)
+}
+
+pub(crate) fn bytes_at_random_are_no_report(alloc: Global) -> Result<()> {
+    let mut draw = Draw::new(7);
     for _ in 0..200 {
-        let bytes = noise(rt.alloc(), &mut rng)?;
-        assert_eq!(rt; named_line(rt.alloc(), bytes.as_slice())?, 1);
-        let mut text = Vec::from_slice(rt.alloc(), b"fixgate report 1\n")?;
-        text.extend_from_slice(bytes.as_slice())?;
-        assert_eq!(rt; named_line(rt.alloc(), text.as_slice())?, 2);
+        let bytes = noise(alloc, &mut draw)?;
+        names(alloc, bytes.as_slice(), 1)?;
+        let text = begun(alloc, bytes.as_slice())?;
+        names(alloc, text.as_slice(), 2)?;
     }
     Ok(())
 }
