@@ -1,6 +1,6 @@
 //! The checks, each by its name.
 
-use crate::{faults, reports, statuses, words};
+use crate::{commands, faults, reports, statuses, words};
 use anyhow::Result;
 use row_text::Checks;
 use std::alloc::Global;
@@ -44,10 +44,12 @@ fn tell_faults(rt: &HostRuntime, alloc: Global, checks: &mut Checks) -> Result<(
 }
 
 fn tell_words(rt: &HostRuntime, alloc: Global, checks: &mut Checks) -> Result<()> {
-    let none = words::words_that_give_no_command(alloc);
+    let given = commands::words_that_give_a_command(alloc);
+    checks.tell(rt, "words_that_give_a_command", given)?;
+    let none = commands::words_that_give_no_command(alloc);
     checks.tell(rt, "words_that_give_no_command", none)?;
-    let script = words::words_that_name_a_script(alloc);
-    checks.tell(rt, "words_that_name_a_script", script)?;
+    let refused = words::words_that_replay_refuses(alloc);
+    checks.tell(rt, "words_that_replay_refuses", refused)?;
     let drill = words::words_of_a_drill(alloc);
     checks.tell(rt, "words_of_a_drill", drill)
 }

@@ -1,11 +1,12 @@
-//! Tests of `replay` by the public calls of gateway_run alone: whole scripts with their whole reports, and every
-//! status.
+//! Tests of `replay` by the public calls of gateway_run alone: whole scripts with their whole reports, every status,
+//! and the commands that words give.
 //!
 //! The program makes its checks, with a line for each, and then does what its arguments say, as `fixgate` without
 //! `serve` does. It fails where a check fails.
 #![tactic(auto)]
 
 mod checks;
+mod commands;
 mod faults;
 mod replayed;
 mod reports;

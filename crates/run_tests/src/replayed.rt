@@ -9,11 +9,11 @@ use std::alloc::Global;
 /// Room for a report that isn't cut off.
 pub(crate) const ROOM: usize = 8192;
 
-/// The words of a command.
-pub(crate) fn words(alloc: Global, texts: &[&str]) -> Result<Vec<String>> {
+/// The words of a command, in a line that has `|` behind each.
+pub(crate) fn words(alloc: Global, line: &str) -> Result<Vec<String>> {
     let mut all = Vec::new(alloc);
-    for text in texts {
-        all.push(String::from_str(alloc, text)?)?;
+    for word in line.split_terminator('|') {
+        all.push(String::from_str(alloc, word)?)?;
     }
     Ok(all)
 }
@@ -58,7 +58,7 @@ pub(crate) fn replayed_with(
     room: usize,
     failing_write: Option<u64>,
 ) -> Result<Ended> {
-    let words = words(alloc, &["replay", "a.script"])?;
+    let words = words(alloc, "replay|a.script|")?;
     let mut source = MemSource::new(script, listed(alloc, failing_read)?);
     let mut sink = MemSink::new(alloc, room, listed(alloc, failing_write)?)?;
     commanded(alloc, words.as_slice(), &mut source, &mut sink)
