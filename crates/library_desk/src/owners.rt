@@ -7,19 +7,27 @@ use session_core::MOST_SESSIONS;
 use std::marker::Model;
 use switchboard::Switchboard;
 
+/// How many numbers of libraries there can be, 0 for the engine among them.
+const NUMBERS: usize = 256;
+
 /// Which library has each session, or 0 for the engine, by the sessions' numbers: so that a turn
 /// looks each session's journal up once and not for each library.
 #[derive(Debug, Drop)]
 pub struct Owners {
     owners: [u8; MOST_SESSIONS],
+    /// Of each number whether a session has it: a library that has none is passed over at once.
+    marks: [bool; NUMBERS],
 }
 
 impl Model for Owners {
     ghost use Rattle.std.specs.Prelude.{ℕ, List};
+    ghost use Rattle.library_desk.specs.Owners.{AreMarked};
 
     ghost Value = { List ℕ };
 
     ghost view = { λ o. o.owners };
+
+    ghost invariant = { λ o. AreMarked o.owners o.marks };
 }
 
 impl Owners {
@@ -29,11 +37,14 @@ impl Owners {
         ensures { AreOwners board.now result }
     {
         let mut owners = [0; MOST_SESSIONS];
+        let mut marks = [false; NUMBERS];
+        marks[0] = true;
         for s in 0..board.sessions() {
             let (owner, _) = board.session(s).owner();
             owners[s] = owner;
+            marks[owner as usize] = true;
         }
-        Owners { owners }
+        Owners { owners, marks }
     }
 
     /// The first session from one on, of so many, that a library has.
@@ -43,6 +54,9 @@ impl Owners {
         ensures first { IfSome result (λ s. HasNone library from s self.now) }
         ensures none { IfNone result (HasNone library from sessions self.now) }
     {
+        if !self.marks[library as usize] {
+            return None;
+        }
         for s in from..sessions {
             if self.owners[s] == library {
                 return Some(s);

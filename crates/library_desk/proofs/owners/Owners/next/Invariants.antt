@@ -1,4 +1,3 @@
-use Rattle.std.proofs.Common.{◌≡◌, ◌≤◌}
 use Rattle.library_desk.specs.Owners.{HasNone}
 use Rattle.library_desk.proofs.owners.Owners.next.Given as goal
 
