@@ -22,12 +22,27 @@ pub fn orders<R: Clock>(rt: &R, alloc: Global, count: u64) -> Result<u128, anyho
     let input = morning(alloc, count)?;
     let (mut gateway, shared, ends) = open(alloc, 1, input.as_slice(), room_for(count))?;
     let mut library = library(&shared, ends);
-    take_session(alloc, &shared, &mut gateway, &mut library)?;
+    let timed = time_orders(rt, alloc, &shared, &mut gateway, &mut library, count);
+    checked(alloc, &shared, gateway, timed, count)
+}
+
+// How many nanoseconds it takes, once the library has the session, and how many bytes were written.
+fn time_orders<R: Clock>(
+    rt: &R,
+    alloc: Global,
+    shared: &Shared,
+    gateway: &mut Gateway,
+    library: &mut Application,
+    count: u64,
+) -> Result<(u128, u64), anyhow::Error>
+    requires over { IsOver shared.now gateway.old.engine gateway.old.wire }
+    ensures over { IsOver shared.now gateway.new.engine gateway.new.wire }
+{
+    take_session(alloc, shared, gateway, library)?;
     let start = Instant::now(rt)?;
-    let written = answer_all(alloc, &shared, &mut gateway, &mut library, count)?;
+    let written = answer_all(alloc, shared, gateway, library, count)?;
     let time = start.elapsed(rt)?;
-    check(alloc, &shared, gateway, written, count)?;
-    Ok(time.as_nanos())
+    Ok((time.as_nanos(), written))
 }
 
 /// Room for so many reports, and the answer to the Logon.
@@ -92,19 +107,20 @@ fn answer_all(
     bail!("some orders were not answered")
 }
 
-/// Whether so many reports were sent, and their bytes written.
-pub fn check(
+/// The time, if so many reports were sent and their bytes written.
+pub fn checked(
     alloc: Global,
     shared: &Shared,
     gateway: Gateway,
-    written: u64,
+    timed: Result<(u128, u64), anyhow::Error>,
     count: u64,
-) -> Result<(), anyhow::Error>
+) -> Result<u128, anyhow::Error>
     requires over { IsOver shared.now gateway.engine gateway.wire }
 {
+    let (time, written) = timed?;
     // (the Logon's answer was written before)
     if written < count || gateway.end(alloc, shared)? != count.wrapping_add(1) {
         bail!("some reports were not written");
     }
-    Ok(())
+    Ok(time)
 }

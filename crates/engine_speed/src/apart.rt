@@ -3,7 +3,7 @@
 ghost use Rattle.std.specs.Prelude.{◌≡◌};
 ghost use Rattle.engine_speed.specs.Over.{IsOver};
 
-use crate::answering::{check, room_for, take_session};
+use crate::answering::{checked, room_for, take_session};
 use crate::application::{Application, library};
 use crate::gateway::{Gateway, open};
 use crate::texts::morning;
@@ -29,13 +29,11 @@ pub fn orders_apart<R: Clock + Threads + Sync>(
     let input = morning(alloc, count)?;
     let (mut gateway, shared, ends) = open(alloc, 1, input.as_slice(), room_for(count))?;
     let mut library = library(&shared, ends);
-    take_session(alloc, &shared, &mut gateway, &mut library)?;
-    let (time, written) = time_beside(rt, alloc, &shared, &mut gateway, &mut library, count)?;
-    check(alloc, &shared, gateway, written, count)?;
-    Ok(time)
+    let timed = time_beside(rt, alloc, &shared, &mut gateway, &mut library, count);
+    checked(alloc, &shared, gateway, timed, count)
 }
 
-// How many nanoseconds it takes, and how many bytes were written.
+// How many nanoseconds it takes, once the library has the session, and how many bytes were written.
 fn time_beside<R: Clock + Threads + Sync>(
     rt: &R,
     alloc: Global,
@@ -47,6 +45,7 @@ fn time_beside<R: Clock + Threads + Sync>(
     requires over { IsOver shared.now gateway.old.engine gateway.old.wire }
     ensures over { IsOver shared.now gateway.new.engine gateway.new.wire }
 {
+    take_session(alloc, shared, gateway, library)?;
     let start = Instant::now(rt)?;
     let written = answer_beside(rt, alloc, shared, gateway, library, count)?;
     let time = start.elapsed(rt)?;
