@@ -17,7 +17,7 @@ pub(crate) struct Limits {
 }
 
 /// Eight connections and no dial, and nine leases of 99 sends.
-const FEW: Limits = Limits {
+pub(crate) const FEW: Limits = Limits {
     connections: 8,
     dials: 0,
     leases: 9,

@@ -1,14 +1,17 @@
 //! Plays the rows of the files that are named as arguments: an engine with three sessions and three
 //! libraries at a real table and real rings, over a wire in memory that can be looked at and a clock that
-//! is set, all in one thread.
+//! is set, all in one thread. In place of a file an argument may be the word
+//!
+//!     checks    tries how an engine goes on behind journals that a run left open
 //!
 //! A file's line `row NAME` begins a row, and behind the name may stand limits other than the usual ones, as
 //! `dials 8`. Each further line is a step, as `steps` has them, up to a line `ends`, behind which stands what
 //! the run leaves, as `left` has it. `texts` has the signs that stand for parts of bodies. For each row there
-//! is a line that says how many steps were played, or which step came to something else. The program fails if
-//! one did.
+//! is a line that says how many steps were played, or which step came to something else, and for each check one
+//! that says whether it is as expected. The program fails if a step did, or if a check fails.
 #![tactic(auto)]
 
+mod checks;
 mod facts;
 mod following;
 mod gateway;
@@ -16,6 +19,7 @@ mod left;
 mod libraries;
 mod limits;
 mod making;
+mod open_journals;
 mod playing;
 mod reading;
 mod rows;
@@ -24,19 +28,33 @@ mod tapped_wire;
 mod texts;
 mod told;
 
-use anyhow::{Context, Result};
-use row_text::{end, play_file};
+use anyhow::{Context, Result, bail};
+use row_text::play_file;
 use rows::Engines;
 use std::env;
 
-fn main(rt: HostRuntime) -> Result<()> {
-    let mut files = env::args(&rt)?;
-    let _program = files.next();
-    let mut differ = 0u64;
-    for file in files {
-        let file = file.as_str();
-        let more = play_file(&rt, rt.alloc(), &Engines {}, file);
-        differ = differ.saturating_add(more.context(format_args!("file {file}"))?);
+/// The argument for the checks.
+const CHECKS: &str = "checks";
+
+/// Does what an argument names. Answers how many rows and checks aren't as they say.
+fn play(rt: &HostRuntime, name: &str) -> Result<u64> {
+    if name == CHECKS {
+        return checks::tell_all(rt);
     }
-    end(differ)
+    play_file(rt, rt.alloc(), &Engines {}, name)
+}
+
+fn main(rt: HostRuntime) -> Result<()> {
+    let mut names = env::args(&rt)?;
+    let _program = names.next();
+    let mut differ = 0u64;
+    for name in names {
+        let name = name.as_str();
+        let others = play(&rt, name).context(format_args!("{name}"))?;
+        differ = differ.saturating_add(others);
+    }
+    if differ > 0 {
+        bail!("{differ} rows and checks aren't as expected");
+    }
+    Ok(())
 }

@@ -26,7 +26,7 @@ const LIBRARIES: u8 = 3;
 /// before it dials again, in milliseconds.
 const TIMEOUT: u64 = 5_000;
 
-const HOLD: u64 = 2_000;
+pub(crate) const HOLD: u64 = 2_000;
 
 const WAIT: u64 = 1_000;
 
@@ -58,12 +58,14 @@ pub(crate) struct Sides {
 }
 
 /// The sessions GATE/BUYER and GATE/DESK, which accept, and GATE/HUB, which dials.
-fn config(alloc: Global, limits: Limits) -> Result<Config, NoMemory>
+pub(crate) fn config(alloc: Global, limits: Limits) -> Result<Config, NoMemory>
     requires connections { limits.connections ≤ MOST_CONNECTIONS }
     requires dials { limits.dials ≤ MOST_DIALLED }
     requires leases { (1 ≤ limits.leases) × (limits.leases ≤ MOST_LEASES) }
     requires sends { 1 ≤ limits.sends }
-    ensures { IfOk result IsConfig }
+    ensures valid { IfOk result IsConfig }
+    ensures sessions { IfOk result (λ config. length config.names ≡ 3) }
+    ensures leases { IfOk result (λ config. config.leases ≡ limits.leases) }
 {
     let buyer = names(alloc, b"BUYER")?;
     let desk = names(alloc, b"DESK")?;

@@ -1,6 +1,6 @@
 use Rattle.std.proofs.Common.{◌≡◌, map, take}
-use Rattle.start_tests.specs.Outset.{record_of}
-use Rattle.start_tests.proofs.outset.records.Given as goal
+use Rattle.engine_tests.specs.Journals.{record_of}
+use Rattle.engine_tests.proofs.open_journals.records.Given as goal
 
 -- the records of the entries so far
 abbrev pub invariant-loop-entry : goal.invariant-loop-entry
