@@ -1,6 +1,6 @@
 //! The checks that are no rows, each by its name.
 
-use crate::{cuts, drills, faults, read_faults, slow_consumers};
+use crate::{cuts, drill_scripts, drills, faults, read_faults, slow_consumers};
 use anyhow::Result;
 use row_text::Checks;
 use std::alloc::Global;
@@ -10,6 +10,7 @@ pub(crate) fn tell_all(rt: &HostRuntime) -> Result<u64> {
     let alloc = rt.alloc();
     let mut checks = Checks::new();
     tell_scripts(rt, alloc, &mut checks)?;
+    tell_drills(rt, alloc, &mut checks)?;
     tell_runs(rt, alloc, &mut checks)?;
     Ok(checks.failed())
 }
@@ -28,7 +29,19 @@ fn tell_scripts(rt: &HostRuntime, alloc: Global, checks: &mut Checks) -> Result<
     checks.tell(rt, "so_it_does_where_they_come_one_by_one", one_by_one)
 }
 
-/// Drills, faults and a counterparty that takes nothing.
+/// Drills as scripts.
+fn tell_drills(rt: &HostRuntime, alloc: Global, checks: &mut Checks) -> Result<()> {
+    let one = drill_scripts::the_script_of_one_round(alloc);
+    checks.tell(rt, "the_script_of_one_round", one)?;
+    let lines = drill_scripts::the_lines_of_one_round(alloc);
+    checks.tell(rt, "the_lines_of_one_round", lines)?;
+    let nine = drill_scripts::the_script_of_nine_rounds(alloc);
+    checks.tell(rt, "the_script_of_nine_rounds", nine)?;
+    let longest = drill_scripts::the_steps_of_the_longest_drill(alloc);
+    checks.tell(rt, "the_steps_of_the_longest_drill", longest)
+}
+
+/// Drills that are carried out, faults, and a counterparty that takes nothing.
 fn tell_runs(rt: &HostRuntime, alloc: Global, checks: &mut Checks) -> Result<()> {
     let seven = drills::seven_rounds(alloc);
     checks.tell(rt, "seven_rounds", seven)?;

@@ -3,7 +3,8 @@
 //!
 //! An argument is the name of a row, or a word:
 //!
-//!     checks     tries what no row shows: inputs that end at each byte, reads that fail in each turn, long drills
+//!     checks     tries what no row shows: inputs that end at each byte, reads that fail in each turn, drills beside
+//!                their lines, long drills
 //!     made N     makes N scripts at random, and compares the report of each with what is told plainly
 //!
 //! The row NAME stands for the files NAME.script and NAME.report: the first is carried out, and its report compared
@@ -17,12 +18,15 @@ mod calls;
 mod checks;
 mod cuts;
 mod differences;
+mod drill_lines;
+mod drill_scripts;
 mod drills;
 mod faults;
 mod kinds;
 mod made;
 mod maker;
 mod morning;
+mod one_round;
 mod orders;
 mod read_faults;
 mod reports;

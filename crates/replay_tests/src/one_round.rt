@@ -1,7 +1,7 @@
 //! A whole drill.
 
-/// The drill of one round.
-pub const ONE_ROUND: &str = "session GATE P0
+/// The lines of the drill of one round.
+pub(crate) const ONE_ROUND: &str = "session GATE P0
 session GATE P1
 session GATE P2
 session GATE P3
