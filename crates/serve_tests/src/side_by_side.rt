@@ -1,6 +1,6 @@
 //! Engine and libraries run side by side.
 
-ghost use Rattle.std.specs.Prelude.{◌≡◌, IfOk};
+ghost use Rattle.std.specs.Prelude.{◌≡◌, IfOk, length};
 
 use crate::frames::{come, logon, put_frame};
 use crate::gates::{HeldGate, SlowGate};
@@ -76,16 +76,25 @@ fn logon_and_order(alloc: Global, them: &str) -> Result<Vec<u8>> {
     Ok(bytes)
 }
 
+/// The four come, each of which logs on and orders, to a wire to which nobody came.
+fn come_all_four(alloc: Global, wire: &mut MemWire) -> Result<()>
+    requires none { length wire.old.links ≡ 0 }
+    ensures accepted { wire.new.accepted ≡ wire.old.accepted }
+    ensures dialled { wire.new.dialled ≡ wire.old.dialled }
+{
+    come(alloc, wire, &logon_and_order(alloc, "P0")?)?;
+    come(alloc, wire, &logon_and_order(alloc, "P1")?)?;
+    come(alloc, wire, &logon_and_order(alloc, "P2")?)?;
+    come(alloc, wire, &logon_and_order(alloc, "P3")?)
+}
+
 /// A wire at which four come, each of which logs on and orders.
 fn wire_with_four(alloc: Global) -> Result<MemWire>
     ensures accepted { IfOk result (λ wire. wire.accepted ≡ 0) }
     ensures dialled { IfOk result (λ wire. wire.dialled ≡ 0) }
 {
     let mut wire = MemWire::new(alloc);
-    come(alloc, &mut wire, &logon_and_order(alloc, "P0")?)?;
-    come(alloc, &mut wire, &logon_and_order(alloc, "P1")?)?;
-    come(alloc, &mut wire, &logon_and_order(alloc, "P2")?)?;
-    come(alloc, &mut wire, &logon_and_order(alloc, "P3")?)?;
+    come_all_four(alloc, &mut wire)?;
     wire.reserve(alloc, ROOM)?;
     Ok(wire)
 }

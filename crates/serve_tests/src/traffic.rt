@@ -73,20 +73,29 @@ fn come_in(alloc: Global, draw: &mut Draw, them: u32, wire: &mut MemWire) -> Res
     come(alloc, wire, bytes.as_slice())
 }
 
+/// They all come, to a wire to which nobody came.
+fn come_all(alloc: Global, draw: &mut Draw, wire: &mut MemWire) -> Result<()>
+    requires none { length wire.old.links ≡ 0 }
+    ensures accepted { wire.new.accepted ≡ wire.old.accepted }
+    ensures dialled { wire.new.dialled ≡ wire.old.dialled }
+{
+    come_in(alloc, draw, 0, wire)?;
+    come_in(alloc, draw, 1, wire)?;
+    come_in(alloc, draw, 2, wire)?;
+    come_in(alloc, draw, 3, wire)?;
+    come_in(alloc, draw, 4, wire)?;
+    come_in(alloc, draw, 5, wire)?;
+    come_in(alloc, draw, 6, wire)?;
+    come_in(alloc, draw, 7, wire)
+}
+
 /// A wire at which they all come.
 pub(crate) fn wire(alloc: Global, draw: &mut Draw) -> Result<MemWire>
     ensures accepted { IfOk result (λ wire. wire.accepted ≡ 0) }
     ensures dialled { IfOk result (λ wire. wire.dialled ≡ 0) }
 {
     let mut wire = MemWire::new(alloc);
-    come_in(alloc, draw, 0, &mut wire)?;
-    come_in(alloc, draw, 1, &mut wire)?;
-    come_in(alloc, draw, 2, &mut wire)?;
-    come_in(alloc, draw, 3, &mut wire)?;
-    come_in(alloc, draw, 4, &mut wire)?;
-    come_in(alloc, draw, 5, &mut wire)?;
-    come_in(alloc, draw, 6, &mut wire)?;
-    come_in(alloc, draw, 7, &mut wire)?;
+    come_all(alloc, draw, &mut wire)?;
     wire.reserve(alloc, ROOM)?;
     Ok(wire)
 }

@@ -61,15 +61,29 @@ fn bring(
 fn answer<R: Clock>(rt: &R, alloc: Global, count: u64, before: u64) -> Result<u128, anyhow::Error> {
     let mut board = open(alloc)?;
     let mut answerer = Answerer::new(alloc)?;
+    answer_on(rt, alloc, &mut board, &mut answerer, count, before)
+}
+
+// The same, on a board of which nothing was heard.
+fn answer_on<R: Clock>(
+    rt: &R,
+    alloc: Global,
+    board: &mut Switchboard,
+    answerer: &mut Answerer,
+    count: u64,
+    before: u64,
+) -> Result<u128, anyhow::Error>
+    requires market { IsOpen board.old }
+{
     let mut logon = Vec::new(alloc);
     put_message(alloc, &mut logon, "A", 1, LOGON)?;
-    bring(alloc, &mut board, &mut answerer, &logon)?;
-    take_session(&mut board)?;
+    bring(alloc, board, answerer, &logon)?;
+    take_session(board)?;
     let earlier = orders(alloc, 2, before)?;
-    bring(alloc, &mut board, &mut answerer, &earlier)?;
+    bring(alloc, board, answerer, &earlier)?;
     let input = orders(alloc, before.saturating_add(2), count)?;
     let start = Instant::now(rt)?;
-    bring(alloc, &mut board, &mut answerer, &input)?;
+    bring(alloc, board, answerer, &input)?;
     let time = start.elapsed(rt)?;
     let all = before.saturating_add(count);
     let book = board.session(0);
