@@ -220,7 +220,6 @@ fn session(alloc: Global, them: &[u8], dials: Option<u32>) -> Result<SessionBook
 }
 
 // A session of which nothing was heard, and which dials.
-#[tactic(auto, unfolding(lease_core::specs::State::state_of))]
 fn dialling(alloc: Global, us: Vec<u8>, them: Vec<u8>, heart: u32) -> Result<SessionBook, NoMemory>
     requires us { length us.items ≤ LONGEST_NAME }
     requires them { length them.items ≤ LONGEST_NAME }
