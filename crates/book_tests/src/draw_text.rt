@@ -9,11 +9,11 @@ use std::alloc::Global;
 pub fn draw_logon(alloc: Global, draw: &mut Draw, next: u32) -> Result<String, NoMemory> {
     let heart = draw.below(3) * 7;
     let text = match draw.below(12) {
-        0 | 1 => format!(in alloc; "35=A|(1)98=0|108={heart}|141=Y|")?,
-        2 => format!(in alloc; "35=A|({})98=0|108={heart}|", draw.near(next).max(1))?,
-        3 => format!(in alloc; "35=A|({next})98=1|108={heart}|")?,
-        _ => format!(in alloc; "35=A|({next})98=0|108={heart}|")?,
-    };
+        0 | 1 => format!(in alloc; "35=A|(1)98=0|108={heart}|141=Y|"),
+        2 => format!(in alloc; "35=A|({})98=0|108={heart}|", draw.near(next).max(1)),
+        3 => format!(in alloc; "35=A|({next})98=1|108={heart}|"),
+        _ => format!(in alloc; "35=A|({next})98=0|108={heart}|"),
+    }?;
     Ok(text)
 }
 
@@ -22,17 +22,17 @@ fn draw_other(alloc: Global, draw: &mut Draw, n: u32) -> Result<String, NoMemory
     let k = draw.below(9);
     let to = n.saturating_add(draw.below(4));
     let text = match draw.below(14) {
-        0..=2 => format!(in alloc; "35=1|({n})112=Q{k}|")?,
-        3 => format!(in alloc; "35=1|({n})")?,
-        4..=6 => format!(in alloc; "35=2|({n})7={k}|16=0|")?,
-        7 => format!(in alloc; "35=2|({n})7={k}|16={to}|")?,
-        8 => format!(in alloc; "35=2|({n})7=x|16={to}|")?,
-        9 => format!(in alloc; "35=4|({n})123=Y|36={to}|")?,
-        10 => format!(in alloc; "35=4|({n})36={to}|")?,
-        11 => format!(in alloc; "35=0|({n})x|")?,
-        12 => format!(in alloc; "35=0|({n})")?,
-        _ => format!(in alloc; "35=5|({n})")?,
-    };
+        0..=2 => format!(in alloc; "35=1|({n})112=Q{k}|"),
+        3 => format!(in alloc; "35=1|({n})"),
+        4..=6 => format!(in alloc; "35=2|({n})7={k}|16=0|"),
+        7 => format!(in alloc; "35=2|({n})7={k}|16={to}|"),
+        8 => format!(in alloc; "35=2|({n})7=x|16={to}|"),
+        9 => format!(in alloc; "35=4|({n})123=Y|36={to}|"),
+        10 => format!(in alloc; "35=4|({n})36={to}|"),
+        11 => format!(in alloc; "35=0|({n})x|"),
+        12 => format!(in alloc; "35=0|({n})"),
+        _ => format!(in alloc; "35=5|({n})"),
+    }?;
     Ok(text)
 }
 
@@ -45,11 +45,11 @@ pub fn draw_message(alloc: Global, draw: &mut Draw, next: u32) -> Result<String,
     };
     let k = draw.below(99);
     let text = match draw.below(30) {
-        0..=17 => format!(in alloc; "35=D|({n})11=A{k}|")?,
-        18 => format!(in alloc; "35=D|49=OTHER|56=GATE|34={n}|11=A{k}|")?,
-        19..=21 => format!(in alloc; "35=D|({})43=Y|11=A{k}|", draw.near(next).max(1))?,
-        _ => draw_other(alloc, draw, n)?,
-    };
+        0..=17 => format!(in alloc; "35=D|({n})11=A{k}|"),
+        18 => format!(in alloc; "35=D|49=OTHER|56=GATE|34={n}|11=A{k}|"),
+        19..=21 => format!(in alloc; "35=D|({})43=Y|11=A{k}|", draw.near(next).max(1)),
+        _ => return draw_other(alloc, draw, n),
+    }?;
     Ok(text)
 }
 

@@ -4,6 +4,7 @@
 ghost use Rattle.std.specs.Prelude.{◌≤◌, length};
 ghost use Rattle.durable_journal.specs.Disk.{bytes_of};
 
+use crate::checks::{holds, same, same_at};
 use crate::draw::Draw;
 use crate::encoded::text_of;
 use crate::images::image_at;
@@ -48,7 +49,7 @@ fn check_image(
     let Ok((_, found)) = recover(alloc, disk, SESSIONS, LEASES) else {
         return Ok(assert!(rt; false, "{plainly:?} of {kept:?}"));
     };
-    assert_eq!(rt; plainly, Answer::Records(found.len()));
+    same(rt, &plainly, &Answer::Records(found.len()));
     let least = front(batches, kept.0);
     let most = front(batches, kept.1);
     let whole = if found.len() == count_of(least) {
@@ -56,11 +57,12 @@ fn check_image(
     } else {
         most
     };
-    assert_eq!(rt; found.len(), count_of(whole), "{kept:?}");
-    assert_eq!(rt;
-        text_of(alloc, &found)?,
-        texts_of(alloc, whole)?,
-        "{kept:?}"
+    same_at(rt, &found.len(), &count_of(whole), &kept);
+    same_at(
+        rt,
+        &text_of(alloc, &found)?,
+        &texts_of(alloc, whole)?,
+        &kept,
     );
     Ok(())
 }
@@ -119,11 +121,11 @@ fn write_and_crash(
     let room = file.len().saturating_add(batches.len()).saturating_add(1);
     let disk = MemDisk::new(alloc, Vec::new(alloc), room, 64, list)?;
     let Some(disk) = write_all(alloc, batches, disk)? else {
-        assert!(rt; false, "{file:?}");
+        holds(rt, false, &file);
         return Ok(false);
     };
     if disk.faults() == 0 {
-        assert_eq!(rt; disk.bytes(), file.as_slice());
+        same(rt, &disk.bytes(), &file.as_slice());
     }
     crash(rt, alloc, draw, batches, &disk)?;
     Ok(disk.faults() == 0)
@@ -153,12 +155,12 @@ fn two_batches(alloc: Global) -> Result<[Batch; 2], AllocError> {
 fn each_of_twelve_calls_fails_in_turn(rt: HostRuntime) -> Result<(), Fail> {
     let batches = two_batches(rt.alloc())?;
     let lengths = [batches[0].texts.len(), batches[1].texts.len()];
-    assert_eq!(rt; lengths, [369, 59]);
-    assert_eq!(rt; file_of(rt.alloc(), &batches)?.len(), 439);
+    same(&rt, &lengths, &[369, 59]);
+    same(&rt, &file_of(rt.alloc(), &batches)?.len(), &439);
     let mut draw = Draw::new(10);
     for call in 0..13u64 {
         let whole = write_and_crash(&rt, rt.alloc(), &mut draw, &batches, call)?;
-        assert_eq!(rt; whole, call == 12, "{call}");
+        same_at(&rt, &whole, &(call == 12), &call);
     }
     Ok(())
 }
@@ -185,6 +187,6 @@ fn whichever_call_fails_a_prefix_is_recovered(rt: HostRuntime) -> Result<(), Fai
             whole = whole.saturating_add(1);
         }
     }
-    assert!(rt; 200 < whole && whole < 1_200, "{whole}");
+    holds(&rt, 200 < whole && whole < 1_200, &whole);
     Ok(())
 }

@@ -1,5 +1,6 @@
 //! Files of which one byte was changed: what is recovered is what the format says for these bytes.
 
+use crate::checks::{holds, same_at};
 use crate::files::two_batches;
 use crate::reader::{Answer, read};
 use crate::recovering::{Recovery, recovered_over};
@@ -56,7 +57,7 @@ fn compare(
     }
     let plainly = read(alloc, &changed, 2, 3)?;
     let got = recovered_over(alloc, changed, 2, 3)?;
-    assert_eq!(rt; got, Recovery::Read(plainly), "byte {place} by {by}");
+    same_at(rt, &got, &Recovery::Read(plainly), &(place, by));
     Ok(matches!(plainly, Answer::Damaged(_)))
 }
 
@@ -79,7 +80,7 @@ fn each_changed_byte_of_two_batches_is_answered_as_the_format_says(
 ) -> Result<(), Fail> {
     let file = two_batches(rt.alloc(), [1, 1, 0])?;
     let damages = damages(&rt, rt.alloc(), &file)?;
-    assert!(rt; 1_000 < damages && damages < 4_390, "{damages}");
+    holds(&rt, 1_000 < damages && damages < 4_390, &damages);
     Ok(())
 }
 
@@ -89,6 +90,6 @@ fn each_changed_byte_of_a_leased_session_is_answered_as_the_format_says(
 ) -> Result<(), Fail> {
     let file = leased(rt.alloc())?;
     let damages = damages(&rt, rt.alloc(), &file)?;
-    assert!(rt; 1_000 < damages && damages < 5_000, "{damages}");
+    holds(&rt, 1_000 < damages && damages < 5_000, &damages);
     Ok(())
 }

@@ -2,6 +2,7 @@
 
 ghost use Rattle.std.specs.Prelude.{◌≡◌, None};
 
+use crate::checks::same;
 use crate::logons::append_logon;
 use crate::recovering::{Recovery, records, recovery_of};
 use crate::rows::{bind, logon, one_batch};
@@ -32,12 +33,12 @@ fn a_file_is_made_written_and_recovered(rt: HostRuntime) -> Result<(), Fail> {
     let disk = FileDisk::new(rt, String::from_str(alloc, path)?);
     assert!(rt; write_logon(alloc, disk)?);
     let written = fs::read(&rt, path)?;
-    assert_eq!(rt; written, one_batch(alloc, &[logon()])?);
+    same(&rt, &written, &one_batch(alloc, &[logon()])?);
     let disk = FileDisk::new(rt, String::from_str(alloc, path)?);
-    assert_eq!(rt; recovery_of(alloc, disk, 1, 10), records(1));
+    same(&rt, &recovery_of(alloc, disk, 1, 10), &records(1));
     fs::write(&rt, path, one_batch(alloc, &[bind(1), logon()])?.as_slice())?;
     let disk = FileDisk::new(rt, String::from_str(alloc, path)?);
-    assert_eq!(rt; recovery_of(alloc, disk, 1, 10), records(2));
+    same(&rt, &recovery_of(alloc, disk, 1, 10), &records(2));
     fs::remove_file(&rt, path)?;
     Ok(())
 }
@@ -55,7 +56,7 @@ fn each_call_of_recovery_fails_in_turn(rt: HostRuntime) -> Result<(), Fail> {
         } else {
             records(0)
         };
-        assert_eq!(rt; recovery_of(alloc, disk, 1, 10), wanted);
+        same(&rt, &recovery_of(alloc, disk, 1, 10), &wanted);
     }
     Ok(())
 }
@@ -81,7 +82,7 @@ fn errors_are_told(rt: HostRuntime) -> Result<(), Fail> {
         (RecoverError::OutOfMemory, "out of memory"),
     ];
     for (error, wanted) in errors {
-        assert_eq!(rt; told(alloc, &error)?.as_str(), wanted);
+        same(&rt, &told(alloc, &error)?.as_str(), &wanted);
     }
     let errors = [
         (
@@ -91,11 +92,12 @@ fn errors_are_told(rt: HostRuntime) -> Result<(), Fail> {
         (AppendError::OutOfMemory, "out of memory"),
     ];
     for (error, wanted) in errors {
-        assert_eq!(rt; told(alloc, &error)?.as_str(), wanted);
+        same(&rt, &told(alloc, &error)?.as_str(), &wanted);
     }
-    assert_eq!(rt;
-        told(alloc, &DiskFault::Failed)?.as_str(),
-        "the disk failed"
+    same(
+        &rt,
+        &told(alloc, &DiskFault::Failed)?.as_str(),
+        &"the disk failed",
     );
     Ok(())
 }

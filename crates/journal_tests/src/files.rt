@@ -1,5 +1,6 @@
 //! What `recover` answers for files of two batches, and for the shortest.
 
+use crate::checks::same;
 use crate::reader::read;
 use crate::recovering::{Recovery, damage, records, recovered};
 use crate::rows::{arrive, bind, leave, logon, put_batch};
@@ -36,9 +37,9 @@ fn batches_behind_open_gates_count(rt: HostRuntime) -> Result<(), Fail> {
     ];
     for (gates, wanted) in cases {
         let file = two_batches(alloc, gates)?;
-        assert_eq!(rt; file.len(), 439);
-        assert_eq!(rt; Recovery::Read(read(alloc, &file, 1, 10)?), wanted);
-        assert_eq!(rt; recovered(alloc, file)?, wanted);
+        same(&rt, &file.len(), &439);
+        same(&rt, &Recovery::Read(read(alloc, &file, 1, 10)?), &wanted);
+        same(&rt, &recovered(alloc, file)?, &wanted);
     }
     Ok(())
 }
@@ -51,7 +52,7 @@ fn a_batch_that_was_cut_short_is_damage_behind_an_open_gate(rt: HostRuntime) -> 
         let file = two_batches(alloc, [1, gate, 0])?;
         for end in SECOND_GATE + 1..file.len() {
             let part = file.as_slice()[..end].to_vec(alloc)?;
-            assert_eq!(rt; recovered(alloc, part)?, wanted);
+            same(&rt, &recovered(alloc, part)?, &wanted);
         }
     }
     Ok(())

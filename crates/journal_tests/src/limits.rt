@@ -2,6 +2,7 @@
 
 ghost use Rattle.std.specs.Prelude.{None};
 
+use crate::checks::same;
 use crate::logons::append_logon;
 use crate::recovering::{Recovery, recovery_of};
 use crate::rows::{Row, arrive, put_batch};
@@ -46,7 +47,7 @@ fn a_file_past_the_limit_is_too_long(rt: HostRuntime) -> Result<(), Fail> {
     ];
     for (length, wanted) in cases {
         let got = recovery_of(rt.alloc(), Measured { length }, 1, 10);
-        assert_eq!(rt; got, Recovery::Failed(wanted));
+        same(&rt, &got, &Recovery::Failed(wanted));
     }
     Ok(())
 }
@@ -163,15 +164,15 @@ fn a_journal_past_the_limit_is_full(rt: HostRuntime) -> Result<(), Fail> {
         batch: batch_of(alloc, LONGEST)?,
         last: batch_of(alloc, LAST)?,
     };
-    assert_eq!(rt; disk.batch.len() as u64, SIZE);
+    same(&rt, &(disk.batch.len() as u64), &SIZE);
     let Ok((mut journal, records)) = recover(alloc, disk, 1, 10) else {
         return Ok(assert!(rt; false));
     };
-    assert_eq!(rt; records.len() as u64, BATCHES + 1);
+    same(&rt, &(records.len() as u64), &(BATCHES + 1));
     let full = AppendError::Full {
         length: 1_073_741_825,
     };
-    assert_eq!(rt; append_logon(alloc, &mut journal, 10)?, Err(full));
-    assert_eq!(rt; append_logon(alloc, &mut journal, 9)?, Ok(()));
+    same(&rt, &append_logon(alloc, &mut journal, 10)?, &Err(full));
+    same(&rt, &append_logon(alloc, &mut journal, 9)?, &Ok(()));
     Ok(())
 }

@@ -1,5 +1,6 @@
 //! Records of each kind at the ends of their ranges, and outside of them.
 
+use crate::checks::{same, same_at};
 use crate::reader::read;
 use crate::recovering::{Recovery, damage, records, recovered_over};
 use crate::rows::{MOMENT, Row, arrive, bind, leave, logon, one_batch, plain};
@@ -20,7 +21,7 @@ fn answer(rt: &impl Abort, alloc: Global, rows: &[Row]) -> Result<Recovery, Fail
     let file = one_batch(alloc, rows)?;
     let plainly = Recovery::Read(read(alloc, &file, 3, 2)?);
     let got = recovered_over(alloc, file, 3, 2)?;
-    assert_eq!(rt; got, plainly, "{rows:?}");
+    same_at(rt, &got, &plainly, &rows);
     Ok(got)
 }
 
@@ -78,9 +79,9 @@ fn each_kind_may_have_its_greatest_numbers(rt: HostRuntime) -> Result<(), Fail> 
     let rows = greatest();
     for count in 0..rows.len() {
         let front = rows.get(..count).unwrap_or(&[]);
-        assert_eq!(rt; answer(&rt, rt.alloc(), front)?, records(count));
+        same(&rt, &answer(&rt, rt.alloc(), front)?, &records(count));
     }
-    assert_eq!(rt; answer(&rt, rt.alloc(), &rows)?, records(18));
+    same(&rt, &answer(&rt, rt.alloc(), &rows)?, &records(18));
     Ok(())
 }
 
@@ -121,7 +122,7 @@ fn rows_outside_their_ranges_are_damage(rt: HostRuntime) -> Result<(), Fail> {
         let mut front = Vec::new(rt.alloc());
         front.extend_from_slice(rows.get(..count).unwrap_or(&[]))?;
         front.push(row)?;
-        assert_eq!(rt; answer(&rt, rt.alloc(), &front)?, damage(0), "{row:?}");
+        same_at(&rt, &answer(&rt, rt.alloc(), &front)?, &damage(0), &row);
     }
     Ok(())
 }
@@ -181,7 +182,7 @@ fn bodies_are_those_of_their_kind(rt: HostRuntime) -> Result<(), Fail> {
     for (kind, body, may) in bodies() {
         let wanted = if may { records(2) } else { damage(0) };
         let got = with_body(&rt, rt.alloc(), kind, body)?;
-        assert_eq!(rt; got, wanted, "{kind} {body:?}");
+        same_at(&rt, &got, &wanted, &(kind, body));
     }
     Ok(())
 }
@@ -212,7 +213,7 @@ fn bodies_have_a_longest(rt: HostRuntime) -> Result<(), Fail> {
     for (kind, head, length, wanted) in cases {
         let body = long_body(rt.alloc(), head, length)?;
         let got = with_body(&rt, rt.alloc(), kind, &body)?;
-        assert_eq!(rt; got, wanted, "{kind} {length}");
+        same_at(&rt, &got, &wanted, &(kind, length));
     }
     Ok(())
 }

@@ -1,5 +1,6 @@
 //! The lines of libraries.
 
+use crate::checks::same_text;
 use crate::libraries::library;
 use crate::records::{lines, run};
 use crate::texts::T;
@@ -79,7 +80,7 @@ fn requests(rt: HostRuntime) -> Result<(), Fail> {
         },
     ];
     let text = lines_of(alloc, Vec::from_array(alloc, calls)?, 0)?;
-    assert_eq!(rt; text.as_slice(), REQUEST_LINES.as_bytes());
+    same_text(&rt, text.as_slice(), REQUEST_LINES);
     Ok(())
 }
 
@@ -145,10 +146,7 @@ fn polls(rt: HostRuntime) -> Result<(), Fail> {
     for event in events {
         calls.push(Call::Poll { event })?;
     }
-    assert_eq!(rt;
-        lines_of(alloc, calls, 1)?.as_slice(),
-        POLL_LINES.as_bytes()
-    );
+    same_text(&rt, lines_of(alloc, calls, 1)?.as_slice(), POLL_LINES);
     Ok(())
 }
 
@@ -195,10 +193,7 @@ fn sends(rt: HostRuntime) -> Result<(), Fail> {
             answer,
         })?;
     }
-    assert_eq!(rt;
-        lines_of(alloc, calls, 0)?.as_slice(),
-        SEND_LINES.as_bytes()
-    );
+    same_text(&rt, lines_of(alloc, calls, 0)?.as_slice(), SEND_LINES);
     Ok(())
 }
 
@@ -253,6 +248,6 @@ fn releases_and_beats(rt: HostRuntime) -> Result<(), Fail> {
         Call::Beat,
     ];
     let text = lines_of(alloc, Vec::from_array(alloc, calls)?, 0)?;
-    assert_eq!(rt; text.as_slice(), ENDING_LINES.as_bytes());
+    same_text(&rt, text.as_slice(), ENDING_LINES);
     Ok(())
 }

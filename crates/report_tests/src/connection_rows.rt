@@ -1,5 +1,6 @@
 //! The lines of strays and of connections.
 
+use crate::checks::same_text;
 use crate::records::{lines, run, run_with, silent};
 use crate::texts::T;
 use connection_core::ConnRecord;
@@ -53,7 +54,7 @@ fn each_cause_has_its_words(rt: HostRuntime) -> Result<(), Fail> {
     }
     // The last two were dialled.
     let record = run(alloc, Vec::new(alloc), 12, connections, Vec::new(alloc));
-    assert_eq!(rt; lines(alloc, &record)?.as_slice(), CAUSE_LINES.as_bytes());
+    same_text(&rt, lines(alloc, &record)?.as_slice(), CAUSE_LINES);
     Ok(())
 }
 
@@ -71,7 +72,7 @@ fn bytes_are_counted_and_printed(rt: HostRuntime) -> Result<(), Fail> {
     let record = run(alloc, Vec::new(alloc), 1, connections, Vec::new(alloc));
     let wanted =
         "connection 0 session 0 taken 8 garbled 7 written 11 cause none\n wrote a b|\\7c\\5c\\00\\0a~\\7f\\ff\n";
-    assert_eq!(rt; lines(alloc, &record)?.as_slice(), wanted.as_bytes());
+    same_text(&rt, lines(alloc, &record)?.as_slice(), wanted);
     Ok(())
 }
 
@@ -100,6 +101,6 @@ fn strays_stand_before_connections(rt: HostRuntime) -> Result<(), Fail> {
     );
     let wanted =
         "stray 1 3 65535\nstray 16 1 64\nconnection 0 session - taken 0 garbled 0 written 0 cause none\n";
-    assert_eq!(rt; lines(alloc, &record)?.as_slice(), wanted.as_bytes());
+    same_text(&rt, lines(alloc, &record)?.as_slice(), wanted);
     Ok(())
 }

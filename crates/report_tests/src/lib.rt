@@ -4,6 +4,8 @@
 #[cfg(test)]
 mod call_rows;
 #[cfg(test)]
+mod checks;
+#[cfg(test)]
 mod connection_rows;
 #[cfg(test)]
 mod expected;

@@ -1,5 +1,6 @@
 //! The lines of sessions.
 
+use crate::checks::same_text;
 use crate::records::{lines, run};
 use crate::sessions::{Numbered, session};
 use crate::texts::T;
@@ -150,10 +151,7 @@ fn each_entry_has_its_line(rt: HostRuntime) -> Result<(), Fail> {
         &["35=D|11=A1|"],
         &[&[], &numbered],
     )?;
-    assert_eq!(rt;
-        lines_of(alloc, record)?.as_slice(),
-        JOURNAL_LINES.as_bytes()
-    );
+    same_text(&rt, lines_of(alloc, record)?.as_slice(), JOURNAL_LINES);
     Ok(())
 }
 
@@ -163,7 +161,7 @@ fn a_session_without_entries(rt: HostRuntime) -> Result<(), Fail> {
     let record = session(alloc, "BUYER", &[], &[], &[&[]])?;
     let wanted =
         "session 0 GATE BUYER owner 0 lease 0 in 0 out 0\n holding 0 0 from 0 start 0 end 0 sends 0\n";
-    assert_eq!(rt; lines_of(alloc, record)?.as_slice(), wanted.as_bytes());
+    same_text(&rt, lines_of(alloc, record)?.as_slice(), wanted);
     Ok(())
 }
 
@@ -205,9 +203,6 @@ fn each_series_but_the_first_is_named(rt: HostRuntime) -> Result<(), Fail> {
     let second: [Numbered<'_>; 1] = [(T + 1_000, "35=A|98=0|108=30|141=Y|")];
     let third: [Numbered<'_>; 1] = [(T + 2_000, "35=A|98=0|108=30|141=Y|")];
     let record = session(alloc, "BUYER", &entries, &[], &[&first, &second, &third])?;
-    assert_eq!(rt;
-        lines_of(alloc, record)?.as_slice(),
-        SERIES_LINES.as_bytes()
-    );
+    same_text(&rt, lines_of(alloc, record)?.as_slice(), SERIES_LINES);
     Ok(())
 }

@@ -1,5 +1,6 @@
 //! The summary of a drill's run.
 
+use crate::checks::same_text;
 use crate::libraries::library;
 use crate::records::{run, silent};
 use crate::sessions::{Numbered, session};
@@ -97,7 +98,7 @@ fn what_there_was_is_counted(rt: HostRuntime) -> Result<(), Fail> {
     let libraries = libraries(alloc, &[(1, 2), (2, 3)])?;
     let record = run(alloc, sessions, 2, connections, libraries);
     let text = summary_text(alloc, 7, &record)?;
-    assert_eq!(rt; text.as_slice(), TWO_SENDS_SUMMARY.as_bytes());
+    same_text(&rt, text.as_slice(), TWO_SENDS_SUMMARY);
     Ok(())
 }
 
@@ -113,7 +114,7 @@ fn a_greater_sum_is_cut(rt: HostRuntime) -> Result<(), Fail> {
     let libraries = libraries(alloc, &[(1, u64::MAX - 1), (2, 3), (3, u64::MAX)])?;
     let record = run(alloc, Vec::new(alloc), 0, Vec::new(alloc), libraries);
     let text = summary_text(alloc, 500, &record)?;
-    assert_eq!(rt; text.as_slice(), CUT_SUMMARY.as_bytes());
+    same_text(&rt, text.as_slice(), CUT_SUMMARY);
     Ok(())
 }
 
@@ -128,6 +129,6 @@ fn nothing_is_summed(rt: HostRuntime) -> Result<(), Fail> {
     let alloc = rt.alloc();
     let record = run(alloc, Vec::new(alloc), 0, Vec::new(alloc), Vec::new(alloc));
     let text = summary_text(alloc, 1, &record)?;
-    assert_eq!(rt; text.as_slice(), EMPTY_SUMMARY.as_bytes());
+    same_text(&rt, text.as_slice(), EMPTY_SUMMARY);
     Ok(())
 }

@@ -1,5 +1,6 @@
 //! Whole records, each with its whole report.
 
+use crate::checks::same_text;
 use crate::expected;
 use crate::records::run;
 use crate::sessions::Numbered;
@@ -30,7 +31,7 @@ fn an_empty_record(rt: HostRuntime) -> Result<(), Fail> {
     let alloc = rt.alloc();
     let record = run(alloc, Vec::new(alloc), 0, Vec::new(alloc), Vec::new(alloc));
     let text = report_text(alloc, &record)?;
-    assert_eq!(rt; text.as_slice(), b"fixgate report 1\nend\n".as_slice());
+    same_text(&rt, text.as_slice(), "fixgate report 1\nend\n");
     Ok(())
 }
 
@@ -61,7 +62,7 @@ const TWO_ORDERS: Whole<'static> = Whole {
 #[test]
 fn two_orders(rt: HostRuntime) -> Result<(), Fail> {
     let text = report(rt.alloc(), &TWO_ORDERS)?;
-    assert_eq!(rt; text.as_slice(), expected::TWO_ORDERS.as_bytes());
+    same_text(&rt, text.as_slice(), expected::TWO_ORDERS);
     Ok(())
 }
 
@@ -161,7 +162,7 @@ const GRANTED_TWICE: Whole<'static> = Whole {
 #[test]
 fn granted_twice(rt: HostRuntime) -> Result<(), Fail> {
     let text = report(rt.alloc(), &GRANTED_TWICE)?;
-    assert_eq!(rt; text.as_slice(), expected::GRANTED_TWICE.as_bytes());
+    same_text(&rt, text.as_slice(), expected::GRANTED_TWICE);
     Ok(())
 }
 
@@ -246,7 +247,7 @@ const TWO_LIBRARIES: Whole<'static> = Whole {
 #[test]
 fn two_libraries(rt: HostRuntime) -> Result<(), Fail> {
     let text = report(rt.alloc(), &TWO_LIBRARIES)?;
-    assert_eq!(rt; text.as_slice(), expected::TWO_LIBRARIES.as_bytes());
+    same_text(&rt, text.as_slice(), expected::TWO_LIBRARIES);
     Ok(())
 }
 
@@ -334,7 +335,7 @@ const TAKEN_BACK: Whole<'static> = Whole {
 #[test]
 fn taken_back(rt: HostRuntime) -> Result<(), Fail> {
     let text = report(rt.alloc(), &TAKEN_BACK)?;
-    assert_eq!(rt; text.as_slice(), expected::TAKEN_BACK.as_bytes());
+    same_text(&rt, text.as_slice(), expected::TAKEN_BACK);
     Ok(())
 }
 
@@ -426,7 +427,7 @@ const HANDED_ON: Whole<'static> = Whole {
 #[test]
 fn handed_on(rt: HostRuntime) -> Result<(), Fail> {
     let text = report(rt.alloc(), &HANDED_ON)?;
-    assert_eq!(rt; text.as_slice(), expected::HANDED_ON.as_bytes());
+    same_text(&rt, text.as_slice(), expected::HANDED_ON);
     Ok(())
 }
 
@@ -451,6 +452,6 @@ const DIALLED: Whole<'static> = Whole {
 #[test]
 fn dialled(rt: HostRuntime) -> Result<(), Fail> {
     let text = report(rt.alloc(), &DIALLED)?;
-    assert_eq!(rt; text.as_slice(), expected::DIALLED.as_bytes());
+    same_text(&rt, text.as_slice(), expected::DIALLED);
     Ok(())
 }

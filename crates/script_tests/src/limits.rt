@@ -53,13 +53,19 @@ fn session_line(alloc: Global, i: u32) -> Result<String, Fail> {
     }
 }
 
-#[test]
-fn sessions_and_connections_at_their_limits(rt: HostRuntime) -> Result<(), Fail> {
-    let alloc = rt.alloc();
+/// The lines of as many sessions as there may be.
+fn most_sessions(alloc: Global) -> Result<Vec<u8>, Fail> {
     let mut text = Vec::new(alloc);
     for i in 0..64 {
         text.extend_from_slice(session_line(alloc, i)?.as_bytes())?;
     }
+    Ok(text)
+}
+
+#[test]
+fn connections_at_their_limit(rt: HostRuntime) -> Result<(), Fail> {
+    let alloc = rt.alloc();
+    let mut text = most_sessions(alloc)?;
     for _ in 0..1_024 {
         text.extend_from_slice(b"connect\n")?;
     }
@@ -67,26 +73,22 @@ fn sessions_and_connections_at_their_limits(rt: HostRuntime) -> Result<(), Fail>
     same(&rt, &script.config.names.as_slice().len(), &64);
     same(&rt, &script.steps.as_slice().len(), &1_024);
     text.extend_from_slice(b"finish 1023\nconnect\n")?;
-    same(
-        &rt,
-        &error_of(&rt, &text, false),
-        &fault(1_090, ScriptKind::OutOfRange),
-    );
-    let mut text = Vec::new(alloc);
-    for i in 0..64 {
-        text.extend_from_slice(session_line(alloc, i)?.as_bytes())?;
-    }
+    let second = fault(1_090, ScriptKind::OutOfRange);
+    same(&rt, &error_of(&rt, &text, false), &second);
+    Ok(())
+}
+
+#[test]
+fn sessions_at_their_limit(rt: HostRuntime) -> Result<(), Fail> {
+    let most = most_sessions(rt.alloc())?;
+    let one_more = fault(65, ScriptKind::OutOfRange);
     for more in [
         b"session GATE Q\n".as_slice(),
         b"dial GATE Q hub:1 30 1000\n",
     ] {
-        let mut text = Vec::from_slice(alloc, &text)?;
+        let mut text = Vec::from_slice(rt.alloc(), &most)?;
         text.extend_from_slice(more)?;
-        same(
-            &rt,
-            &error_of(&rt, &text, false),
-            &fault(65, ScriptKind::OutOfRange),
-        );
+        same(&rt, &error_of(&rt, &text, false), &one_more);
     }
     Ok(())
 }

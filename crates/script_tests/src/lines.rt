@@ -10,15 +10,15 @@ use std::test::Fail;
 /// Puts what a library does behind `out` as it stands in a script.
 fn push_act(out: &mut Vec<u8>, act: &LibStep, alloc: Global) -> Result<(), Fail> {
     let text = match act {
-        LibStep::Request { s, from } => format!(in alloc; "request {s} {from}")?,
-        LibStep::Poll => format!(in alloc; "poll")?,
-        LibStep::Send { s, .. } => format!(in alloc; "send {s} ")?,
-        LibStep::Release { s } => format!(in alloc; "release {s}")?,
-        LibStep::Beat => format!(in alloc; "beat")?,
-        LibStep::Hand { s, heir } => format!(in alloc; "hand {s} {heir}")?,
-        LibStep::Answer => format!(in alloc; "answer")?,
-        LibStep::Read { count } => format!(in alloc; "read {count}")?,
-    };
+        LibStep::Request { s, from } => format!(in alloc; "request {s} {from}"),
+        LibStep::Poll => format!(in alloc; "poll"),
+        LibStep::Send { s, .. } => format!(in alloc; "send {s} "),
+        LibStep::Release { s } => format!(in alloc; "release {s}"),
+        LibStep::Beat => format!(in alloc; "beat"),
+        LibStep::Hand { s, heir } => format!(in alloc; "hand {s} {heir}"),
+        LibStep::Answer => format!(in alloc; "answer"),
+        LibStep::Read { count } => format!(in alloc; "read {count}"),
+    }?;
     out.extend_from_slice(text.as_bytes())?;
     if let LibStep::Send { body, .. } = act {
         push_printed(out, body.as_slice())?;
@@ -29,19 +29,19 @@ fn push_act(out: &mut Vec<u8>, act: &LibStep, alloc: Global) -> Result<(), Fail>
 /// Puts a step behind `out` as it stands in a script.
 fn push_step(out: &mut Vec<u8>, step: &Step, alloc: Global) -> Result<(), Fail> {
     let text = match step {
-        Step::At { .. } => format!(in alloc; "at ")?,
-        Step::Connect => format!(in alloc; "connect")?,
-        Step::Take => format!(in alloc; "take")?,
-        Step::Bytes { c, .. } => format!(in alloc; "bytes {c} ")?,
-        Step::Frame { c, .. } => format!(in alloc; "frame {c} ")?,
-        Step::Finish { c } => format!(in alloc; "finish {c}")?,
-        Step::FailRead { c } => format!(in alloc; "failread {c}")?,
-        Step::FailWrite { c, after } => format!(in alloc; "failwrite {c} {after}")?,
-        Step::Block { c, after } => format!(in alloc; "block {c} {after}")?,
-        Step::Unblock { c } => format!(in alloc; "unblock {c}")?,
-        Step::Turn => format!(in alloc; "turn")?,
-        Step::Lib { library, .. } => format!(in alloc; "lib {library} ")?,
-    };
+        Step::At { .. } => format!(in alloc; "at "),
+        Step::Connect => format!(in alloc; "connect"),
+        Step::Take => format!(in alloc; "take"),
+        Step::Bytes { c, .. } => format!(in alloc; "bytes {c} "),
+        Step::Frame { c, .. } => format!(in alloc; "frame {c} "),
+        Step::Finish { c } => format!(in alloc; "finish {c}"),
+        Step::FailRead { c } => format!(in alloc; "failread {c}"),
+        Step::FailWrite { c, after } => format!(in alloc; "failwrite {c} {after}"),
+        Step::Block { c, after } => format!(in alloc; "block {c} {after}"),
+        Step::Unblock { c } => format!(in alloc; "unblock {c}"),
+        Step::Turn => format!(in alloc; "turn"),
+        Step::Lib { library, .. } => format!(in alloc; "lib {library} "),
+    }?;
     out.extend_from_slice(text.as_bytes())?;
     match step {
         Step::At { moment } => out.extend_from_slice(&stamp_text((*moment).min(LAST_MOMENT)))?,
