@@ -1,5 +1,7 @@
 //! The engine with its wire and its clock.
 
+ghost use Rattle.std.specs.Prelude.{◌≡◌};
+
 use crate::tapped_wire::TappedWire;
 use engine_loop::{Engine, Turn};
 use gate_io::StepClock;
@@ -14,4 +16,14 @@ pub(crate) struct Gateway {
     pub(crate) turn: Option<Turn>,
     /// The records that were handed out and not looked at yet.
     pub(crate) records: Vec<Record>,
+}
+
+impl Gateway {
+    /// The engine, without what it was handed.
+    pub(crate) fn into_engine(self) -> Engine
+        ensures { result ≡ self.engine }
+    {
+        let Gateway { engine, .. } = self;
+        engine
+    }
 }

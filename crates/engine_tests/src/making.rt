@@ -3,7 +3,7 @@
 ghost use Rattle.std.specs.Prelude.{◌≡◌, ◌≤◌, ◌<◌, IfOk, Some, false, length, slice_get};
 ghost use Rattle.engine_config.specs.Config.{IsConfig};
 ghost use Rattle.engine_start.specs.Starts.{AreLibraryEnds};
-ghost use Rattle.engine_tests.specs.Outside.{AreEnds, IsOver};
+ghost use Rattle.engine_tests.specs.Outside.{AreAllEnds, AreEnds, IsOver};
 
 use crate::gateway::Gateway;
 use crate::limits::Limits;
@@ -121,10 +121,7 @@ pub(crate) fn make(alloc: Global, limits: Limits) -> Result<(Shared, Sides), Not
     ensures third { IfOk result (λ made. AreEnds made.0 2 made.1.third) }
 {
     let (engine, shared, ends) = engine_loop::start(alloc, config(alloc, limits)?, T)?;
-    let mut ends = ends.into_iter();
-    let first = ends.next().ok_or(NotMade::NoLibrary)?;
-    let second = ends.next().ok_or(NotMade::NoLibrary)?;
-    let third = ends.next().ok_or(NotMade::NoLibrary)?;
+    let (first, second, third) = first_three(&shared, ends)?;
     let gateway = Gateway {
         engine,
         wire: TappedWire::new(alloc),
@@ -134,11 +131,32 @@ pub(crate) fn make(alloc: Global, limits: Limits) -> Result<(Shared, Sides), Not
     };
     let sides = Sides {
         gateway,
-        first: ends_of(&shared, 0, first),
-        second: ends_of(&shared, 1, second),
-        third: ends_of(&shared, 2, third),
+        first,
+        second,
+        third,
     };
     Ok((shared, sides))
+}
+
+/// The ends of the first three libraries, as the libraries take them.
+fn first_three(
+    _shared: &Shared,
+    ends: Vec<LibraryEnds>,
+) -> Result<(LibraryEnds2, LibraryEnds2, LibraryEnds2), NotMade>
+    requires libraries { AreAllEnds _shared.now ends.items }
+    ensures first { IfOk result (λ three. AreEnds _shared.now 0 three.0) }
+    ensures second { IfOk result (λ three. AreEnds _shared.now 1 three.1) }
+    ensures third { IfOk result (λ three. AreEnds _shared.now 2 three.2) }
+{
+    let mut ends = ends.into_iter();
+    let first = ends.next().ok_or(NotMade::NoLibrary)?;
+    let second = ends.next().ok_or(NotMade::NoLibrary)?;
+    let third = ends.next().ok_or(NotMade::NoLibrary)?;
+    Ok((
+        ends_of(_shared, 0, first),
+        ends_of(_shared, 1, second),
+        ends_of(_shared, 2, third),
+    ))
 }
 
 /// The ends of the library at a place, as the library takes them.

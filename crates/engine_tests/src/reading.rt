@@ -101,20 +101,35 @@ fn yes_or_no(word: &str) -> Option<bool> {
 }
 
 // What is so, of the engine, its last turn and its wire.
-fn fact_of<'a>(name: &str, mut words: Words<'a>) -> Option<Fact<'a>> {
+fn fact_of<'a>(name: &str, words: Words<'a>) -> Option<Fact<'a>> {
+    match fact_of_text(name, text(words)?) {
+        None => fact_at(name, words),
+        fact => fact,
+    }
+}
+
+// What is so, where a text alone says it.
+fn fact_of_text<'a>(name: &str, text: &'a str) -> Option<Fact<'a>> {
     Some(match name {
-        "accepts" => Fact::Accepts(text(words)?),
-        "reads_are" => Fact::Reads(text(words)?),
-        "serves" => Fact::Serves(text(words)?),
-        "writes" => Fact::Writes(text(words)?),
+        "accepts" => Fact::Accepts(text),
+        "reads_are" => Fact::Reads(text),
+        "serves" => Fact::Serves(text),
+        "writes" => Fact::Writes(text),
+        "connections" => Fact::Connections(text),
+        "moment" => Fact::Moment(text),
+        "closed" => Fact::Closed(text),
+        "asked" => Fact::Asked(text),
+        "dialled" => Fact::Dialled(text),
+        _ => return None,
+    })
+}
+
+// What is so of the session or connection with a number, or at a place.
+fn fact_at<'a>(name: &str, mut words: Words<'a>) -> Option<Fact<'a>> {
+    Some(match name {
         "bound" => Fact::Bound(words.u16()?, text(words)?),
         "owner" => Fact::Owner(words.u16()?, text(words)?),
         "connection" => Fact::Connection(words.place()?, text(words)?),
-        "connections" => Fact::Connections(text(words)?),
-        "moment" => Fact::Moment(text(words)?),
-        "closed" => Fact::Closed(text(words)?),
-        "asked" => Fact::Asked(text(words)?),
-        "dialled" => Fact::Dialled(text(words)?),
         "took" => Fact::Took(words.u32()?, text(words)?),
         "took_text" => Fact::TookText(words.u32()?, text(words)?),
         _ => return None,
