@@ -5,6 +5,7 @@ pub mod Lawful
 pub mod Nexts
 pub mod Kept
 pub mod Raised
+pub mod LeasesKept
 pub mod Settled
 pub mod Words
 pub mod GivenBack

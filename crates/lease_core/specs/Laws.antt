@@ -38,6 +38,14 @@ LinesAreRaised = (entries : List Entry) (w : Word) → lines_of (entries_after_w
 abbrev pub LinesAreHeld : Type 0
 LinesAreHeld = (entries : List Entry) (until : ℕ) → lines_of (entries_after_hold until entries) ≡ lines_of entries
 
+-- whoever has the session had it before, by the same lease
+abbrev pub KeepsLease : List Line → List Line → Type 0
+KeepsLease old new = 0 < owner_by new → (owner_by new ≡ owner_by old) × (length new ≡ length old)
+
+-- so it is with what a word adds to the lines
+abbrev pub RaisedLinesKeepLeases : Type 0
+RaisedLinesKeepLeases = (lines : List Line) (w : Word) → KeepsLease lines (raised lines w)
+
 -- and the engine's taking back ends the last one
 abbrev pub LinesAreTakenBack : Type 0
 LinesAreTakenBack = (entries : List Entry) (standing : Standing) → IsActive (state_of entries) → lines_of (entries_after_timeout standing entries) ≡ taken_back standing (lines_of entries)

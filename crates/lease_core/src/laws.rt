@@ -1,6 +1,6 @@
 //! What holds of every list of entries and of every word, each law as the clause of a function
 //! that does nothing.
-ghost use Rattle.lease_core.specs.Laws.{HoldingsAdjoin, OneOwner, LinesAreRaised, LinesAreHeld, LinesAreTakenBack, LinesGoOn, LinesGoOnOver, LinesTellOwner, LinesTellLease, WordsAreShown, WordsAreShowable, WordsCanTimeOut, WordsAreRead, WordsAreWritten, PushedIsLast, PushedIsChanged, DeedsAreTold, LibraryDeedsAreTold, EntriesDecide, EntriesDecideOver, GrantsFindNobody, LeasesHaveLibraries, RunsGoOn, RunsGoOnOver};
+ghost use Rattle.lease_core.specs.Laws.{HoldingsAdjoin, OneOwner, LinesAreRaised, LinesAreHeld, LinesAreTakenBack, RaisedLinesKeepLeases, LinesGoOn, LinesGoOnOver, LinesTellOwner, LinesTellLease, WordsAreShown, WordsAreShowable, WordsCanTimeOut, WordsAreRead, WordsAreWritten, PushedIsLast, PushedIsChanged, DeedsAreTold, LibraryDeedsAreTold, EntriesDecide, EntriesDecideOver, GrantsFindNobody, LeasesHaveLibraries, RunsGoOn, RunsGoOnOver};
 
 /// Whatever happened to a session, the spans of its ownership are adjoining: they cut its inbound
 /// log into intervals, the engine's and a library's in turns.
@@ -18,6 +18,8 @@ pub fn words_raise_lines()
     ensures shown { LinesAreRaised }
     ensures held { LinesAreHeld }
     ensures timed_out { LinesAreTakenBack }
+    // It gives the session to nobody.
+    ensures kept { RaisedLinesKeepLeases }
 {}
 
 /// What an entry adds to a journal's lines follows from them and from that entry.

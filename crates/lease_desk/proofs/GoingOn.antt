@@ -1,16 +1,14 @@
 -- How a session goes on that is looked at or taken back.
 use Rattle.std.proofs.Common.{◌≡◌, ◌≢◌, inl, inr, ℕ, suc, ◌<◌, ◌≤◌, List, [], ◌∷◌, length, Bool, true, false, refl, sym, ap, subst, ◌∙◌, arith}
 use Rattle.std.specs.Prelude.{OnErr, OnOk, Result, Ok, Err, if◌then◌else◌}
-use Rattle.lease_core.specs.Lines.{ending_by, last_line, lines_of, no_line, raised, raised_line, raises}
+use Rattle.lease_core.specs.Laws.{KeepsLease}
+use Rattle.lease_core.specs.Lines.{last_line, lines_of}
 use Rattle.lease_core.specs.Showable.{owner_by}
-use Rattle.lease_core.specs.State.{last_or, owner_in, owner_of, state_of, with_last}
+use Rattle.lease_core.specs.State.{owner_in, owner_of, state_of}
 use Rattle.lease_core.specs.declared.entry.Entry.{Entry}
 use Rattle.lease_core.specs.declared.lease.Ending.{Ending}
 use Rattle.lease_core.specs.declared.lease.Ending.TheVariants.{GivenBack, Running, TakenBack}
 use Rattle.lease_core.specs.declared.lease.Line.{Line}
-use Rattle.lease_core.specs.declared.word.Word.{Word}
-use Rattle.lease_core.specs.declared.word.Standing.{Standing}
-use Rattle.lease_core.specs.declared.word.Standing.TheVariants.{Active, Released, Revoked}
 use Rattle.lease_words.specs.Leases.{is_running, runs}
 use Rattle.switchboard.specs.Book.{Book}
 use Rattle.switchboard.specs.Board.{Board, book_at}
@@ -25,10 +23,6 @@ goes_on_further first second third s one two = record {
       let before = one.lease (subst (λ n. 0 < n) later.0 some) in
       (later.0 ∙ before.0, later.1 ∙ before.1);
 }
-
--- what a holder relies on, where a session's lines went on
-abbrev pub KeepsLease : List Line → List Line → Type 0
-KeepsLease old new = 0 < owner_by new → (owner_by new ≡ owner_by old) × (length new ≡ length old)
 
 pub one_goes_on : ((entries : List Entry) → owner_by (lines_of entries) ≡ owner_of (state_of entries)) → (s : ℕ) (old new : Board) → ((j : ℕ) → j ≢ s → book_at new j ≡ book_at old j) → length (book_at new s).inbound ≡ length (book_at old s).inbound
     → KeepsLease (lines_of (book_at old s).entries) (lines_of (book_at new s).entries) → (j : ℕ) → GoesOn old new j
@@ -47,37 +41,6 @@ one_goes_on tell s old new others grown keeps j = elim (same_or_other j s) [
         lease = λ some. (ap (λ (b : Book). owner_of (state_of b.entries)) same, ap (λ (b : Book). length (lines_of b.entries)) same);
       }
 ]
-
-long_with_last : (f : Line → Line) (lines : List Line) → length (with_last f lines) ≡ length lines
-long_with_last f [] = refl
-long_with_last f (l ∷ []) = refl
-long_with_last f (l ∷ k ∷ ks) = ap (λ n. suc n) (long_with_last f (k ∷ ks))
-
-last_with_last : (f : Line → Line) (d : Line) (lines : List Line) → 0 < length lines → last_or d (with_last f lines) ≡ f (last_or d lines)
-last_with_last f d [] some = absurd (omega arith)
-last_with_last f d (l ∷ []) some = refl
-last_with_last f d (l ∷ k ∷ ks) some = last_with_last f l (k ∷ ks) (omega arith)
-
-still_owned : (standing : Standing) (owner library : ℕ) (ending : Ending) → 0 < owner_in (ending_by standing owner library ending) library → owner_in (ending_by standing owner library ending) library ≡ owner_in ending library
-still_owned Active owner library ending some = refl
-still_owned Revoked owner library ending some = refl
-still_owned Released owner library ending some = absurd (omega arith)
-
-last_raised : (w : Word) (lines : List Line) → KeepsLease lines (with_last (raised_line w) lines)
-last_raised w [] some = (refl, refl)
-last_raised w (l ∷ ls) some =
-    let lines = l ∷ ls in
-    let last : last_line (with_last (raised_line w) lines) ≡ raised_line w (last_line lines) = last_with_last (raised_line w) no_line lines (omega arith) in
-    let owner : owner_by (with_last (raised_line w) lines) ≡ owner_in (raised_line w (last_line lines)).ending (last_line lines).library = ap (λ (x : Line). owner_in x.ending x.library) last in
-    (owner ∙ still_owned w.standing w.owner (last_line lines).library (last_line lines).ending (subst (λ n. 0 < n) owner some), long_with_last (raised_line w) lines)
-
-chosen : (b : Bool) (w : Word) (lines : List Line) → KeepsLease lines (if b then with_last (raised_line w) lines else lines)
-chosen true w lines some = last_raised w lines some
-chosen false w lines some = (refl, refl)
-
-pub raised_keeps : (w : Word) (lines : List Line) → KeepsLease lines (raised lines w)
-unfolding raised
-raised_keeps w lines = chosen (raises lines w) w lines
 
 nobody : (ending : Ending) (library : ℕ) → runs ending ≡ false → 0 < owner_in ending library → ⊥
 nobody Running library ended some = cc

@@ -14,7 +14,7 @@ ghost use Rattle.switchboard.specs.Stops.{NothingIsTold};
 use crate::desk::{GATHERED, LeaseDesk};
 use fix_fields::laws::fit_bodies_are_bodies;
 use gate_io::{Bytes, LAST_MOMENT, NoMemory};
-use lease_core::laws::lines_tell_the_owner;
+use lease_core::laws::{lines_tell_the_owner, words_raise_lines};
 use lease_words::{EngineSeat, LANE_SLOTS, Leases};
 use std::alloc::Global;
 use std::collections::VecDeque;
@@ -57,6 +57,7 @@ impl LeaseDesk {
     {
         boards_stay_sound();
         lines_tell_the_owner();
+        words_raise_lines();
         self.make_room(alloc, s)?;
         let word = leases.look(&mut self.seat, s);
         take_all(leases, &mut self.seat, s, &mut self.bodies);

@@ -1,3 +1,4 @@
+use Rattle.lease_core.proofs.LeasesKept.{leases-kept}
 use Rattle.lease_core.proofs.Raised.{lines-extended}
 use Rattle.lease_core.proofs.WordsShown.{lines-held, lines-timed_out}
 use Rattle.lease_core.proofs.laws.words_raise_lines.Goals as goal
@@ -10,3 +11,6 @@ returns-clause-held c = lines-held
 
 pub returns-clause-timed_out : goal.returns-clause-timed_out
 returns-clause-timed_out c = lines-timed_out
+
+pub returns-clause-kept : goal.returns-clause-kept
+returns-clause-kept c = leases-kept

@@ -1,4 +1,5 @@
 use Rattle.std.proofs.Common.{length, ap, subst, sym, ◌∙◌}
+use Rattle.lease_core.specs.Laws.{KeepsLease}
 use Rattle.lease_core.specs.Lines.{lines_of, missing_sends, raised}
 use Rattle.lease_words.specs.declared.view.EngineSession.{EngineSession}
 use Rattle.lease_words.specs.Facts.{OthersTaken}
@@ -10,7 +11,7 @@ use Rattle.switchboard.specs.Board.{book_at, place_at}
 use Rattle.lease_words.specs.Sees.{after_look}
 use Rattle.lease_desk.specs.Desk.{after_takes}
 use Rattle.lease_desk.proofs.Gathers.{all_taken, bodies_fit, gathers, news_agree, rests_agree, takes_lines}
-use Rattle.lease_desk.proofs.GoingOn.{KeepsLease, one_goes_on, raised_keeps}
+use Rattle.lease_desk.proofs.GoingOn.{one_goes_on}
 use Rattle.lease_desk.proofs.InStep.{desk_in_step, desk_others, within_of}
 use Rattle.lease_desk.proofs.desk.LeaseDesk.gather.Goals as goal
 
@@ -70,4 +71,4 @@ returns-clause-goes_on c =
     (ap (λ (d : Desk). length d.book.inbound) news.desk)
     (subst (KeepsLease (lines_of (book_at old c.args.s).entries))
     (sym ((returns-clause-agrees c).lines ∙ ap (λ (es : EngineSession). es.lines) news.known ∙ takes_lines news.items (after_look (engine_at c.args.self.now.seat c.args.s) news.word) ∙ ap (λ lines. raised lines news.word) (sym c.requires.agrees.lines)))
-    (raised_keeps news.word (lines_of (book_at old c.args.s).entries)))
+    (c.words_raise_lines.ensures.kept (lines_of (book_at old c.args.s).entries) news.word))
