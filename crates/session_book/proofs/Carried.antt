@@ -1,5 +1,5 @@
 -- The acts of the session machine are what the journal tells.
-use Rattle.std.proofs.Common.{◌≡◌, ℕ, zero, suc, ◌+◌, List, [], ◌∷◌, ◌++◌, length, Option, Some, IsSome, is_some, refl, sym, ap, subst, ◌∙◌, append_assoc}
+use Rattle.std.proofs.Common.{◌≡◌, ℕ, zero, suc, ◌+◌, List, [], ◌∷◌, ◌++◌, length, Option, Some, is_some, refl, sym, ap, subst, ◌∙◌, append_assoc}
 use Rattle.std.specs.List.{slice_get}
 use Rattle.std.proofs.lemmas.Bool.{false≢true}
 use Rattle.std.proofs.lemmas.List.{append-nil, length_push}
@@ -20,11 +20,9 @@ use Rattle.session_core.specs.State.{State}
 use Rattle.session_book.specs.Book.{Book, Desk, with_event, with_machine, with_outbox}
 use Rattle.session_book.specs.Kept.{IsBook}
 use Rattle.session_book.proofs.News.{got_last, named}
-use Rattle.session_book.proofs.Telling.{Grounds, LogsAgree, agree_after, sent_is, series_are}
+use Rattle.session_book.proofs.Telling.{LogsAgree, agree_after, sent_is, series_are}
 use Rattle.session_book.specs.Told.{CarriesOut, IsLogged, TellActs, TellsAct}
-
-abbrev pub EntriesStay : Type 0
-EntriesStay = (earlier later : List (List OutEntry)) (k n : ℕ) → GoesOn earlier later → IsSome (entry_at earlier k n) → entry_at later k n ≡ entry_at earlier k n
+use Rattle.session_book.specs.Grounds.{EntriesStay, Grounds}
 
 -- what is found in a list is found in one that goes on from it
 got_first : {T : Type 0} (xs ys : List T) (n : ℕ) (x : T) → slice_get xs n ≡ Some x → slice_get (xs ++ ys) n ≡ Some x

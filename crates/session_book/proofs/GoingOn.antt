@@ -20,8 +20,8 @@ use Rattle.session_book.specs.Acts.{IsBegun, admin_entry, after_act, after_acts,
 use Rattle.session_book.specs.Book.{Book, Desk, with_event, with_machine, with_outbox}
 use Rattle.session_book.specs.Rereading.{WentOn}
 use Rattle.session_book.specs.Words.{after_timeout, after_word, with_news}
+use Rattle.session_book.specs.Grounds.{Grounds}
 use Rattle.session_book.proofs.LeaseEntries.{AddsLeases, adds_shown, adds_timed, sends_go_on}
-use Rattle.session_book.proofs.Telling.{Grounds}
 
 -- what was accepted stands first
 pub inbound_first : (before book : Book) → WentOn before book → take (length before.inbound) book.inbound ≡ before.inbound

@@ -21,10 +21,10 @@ use Rattle.message_log.specs.declared.entry.OutEntry.{OutEntry}
 use Rattle.session_book.specs.Moments.{is_beat_by}
 use Rattle.session_book.specs.Spells.{is_act, is_act_of, placed, placed_from}
 use Rattle.session_book.specs.Words.{sent_entry, with_sends}
+use Rattle.session_book.specs.Grounds.{Grounds}
 use Rattle.session_book.proofs.Moments.{NoBeat}
 use Rattle.session_book.proofs.Runs.{filter_no}
 use Rattle.session_book.proofs.Spells.{Keeps, NoMachine}
-use Rattle.session_book.proofs.Telling.{Grounds}
 
 abbrev is_lease : Entry → Bool
 is_lease (Granted library nr lease from start) = true

@@ -33,13 +33,13 @@ use Rattle.session_book.specs.Sends.{AreSendsOf, new_sends, sent_at, sent_by}
 use Rattle.session_book.specs.Spells.{placed_from}
 use Rattle.session_book.specs.Told.{IsLogged, TellActs, TellsAct}
 use Rattle.session_book.specs.Words.{after_timeout, after_word, sent_entry, shown_sends}
+use Rattle.session_book.specs.Grounds.{EntriesStay, RunGrounds}
 use Rattle.session_book.proofs.Books.{lengths}
-use Rattle.session_book.proofs.Carried.{EntriesStay, bound_with, carried_with}
+use Rattle.session_book.proofs.Carried.{bound_with, carried_with}
 use Rattle.session_book.proofs.Handing.{over_least, series_stepped}
 use Rattle.session_book.proofs.LeaseEntries.{AddsLeases, IsLease, adds_shown, adds_timed, sends_go_on}
 use Rattle.session_book.proofs.News.{last_length, named}
 use Rattle.session_book.proofs.RoundTrip.{FitsIn, fits_all, fits_whole, last_is, last_series, placed, state_folded}
-use Rattle.session_book.proofs.Runs.{RunGrounds}
 use Rattle.session_book.proofs.SendEvents.{first_sends, timeout_sends, word_sends}
 
 -- the text of a session message tells whether it is a session entry

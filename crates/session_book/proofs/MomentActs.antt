@@ -31,10 +31,11 @@ use Rattle.session_book.specs.Moments.{AreEarlier, BeatsBehind, is_beat_by, item
 use Rattle.session_book.specs.Spells.{items_at, logged_body, placed, placed_from}
 use Rattle.session_book.specs.Told.{TellActs, TellsAct}
 use Rattle.session_book.specs.Words.{new_items, sent_entry, with_sends}
+use Rattle.session_book.specs.Grounds.{RunGrounds}
 use Rattle.session_book.proofs.LeaseEntries.{sends_go_on}
 use Rattle.session_book.proofs.Moments.{NoBeat}
 use Rattle.session_book.proofs.News.{named}
-use Rattle.session_book.proofs.Runs.{RunGrounds, body_logged}
+use Rattle.session_book.proofs.Runs.{body_logged}
 use Rattle.session_book.proofs.Spells.{Keeps}
 use Rattle.session_book.proofs.Telling.{LogsAgree, agree_after, agree_sent, length_behind, number_behind, with_both, with_nothing}
 use Rattle.session_book.proofs.TextRuns.{items_placed}

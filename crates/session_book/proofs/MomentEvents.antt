@@ -34,12 +34,13 @@ use Rattle.session_book.specs.Runs.{Handled, IsRunOver, IsWithin, StandsBehind, 
 use Rattle.session_book.specs.Spells.{items_at, placed_from, spells_behind}
 use Rattle.session_book.specs.Told.{TellActs}
 use Rattle.session_book.specs.Words.{after_timeout, after_word, new_items, send_items, shown_sends, where_bound, with_news}
+use Rattle.session_book.specs.Grounds.{RunGrounds}
 use Rattle.session_book.proofs.Carried.{bound_with, carried_with}
 use Rattle.session_book.proofs.LeaseEntries.{AddsLeases, adds_one, adds_shown, adds_timed, leases_keep, leases_no_beats, reply_is_lease, sends_go_on}
 use Rattle.session_book.proofs.MomentActs.{PlansAnswer, acts_at, acts_items, acts_no_beats, acts_queue, acts_sent, as_many, beats_one, heard_sent, items_are, news_sent, sends_at, tests_no_beats}
 use Rattle.session_book.proofs.Moments.{beatless, earlier_by, made_at}
 use Rattle.session_book.proofs.MomentRuns.{Batch, batch_on, ending_on, opening_on, unbound_on}
-use Rattle.session_book.proofs.Runs.{Makes, RunGrounds, acts_keep}
+use Rattle.session_book.proofs.Runs.{Makes, acts_keep}
 use Rattle.session_book.proofs.RunEvents.{ask_no_tick, binding_run, dial_run, first_run, lapse_run, leave_run, makes_of, message_run, request_run, tick_run, timeout_run, word_run}
 use Rattle.session_book.proofs.Spells.{Keeps, changed_last}
 use Rattle.session_book.proofs.Telling.{LogsAgree, acts_tell, lapse_tells, request_tells, timeout_tells, with_nothing, word_tells}

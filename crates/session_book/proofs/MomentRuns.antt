@@ -18,8 +18,9 @@ use Rattle.session_book.specs.Moments.{AreEarlier, BeatsBehind, IsTimed, IsTimed
 use Rattle.session_book.specs.Runs.{Handled, IsRunOver, bodies_of, handled_of}
 use Rattle.session_book.specs.Spells.{items_at, new_spell, placed_from, spell_items, spell_with, spells_behind, spells_from}
 use Rattle.session_book.specs.Texts.{WasSent}
+use Rattle.session_book.specs.Grounds.{RunGrounds}
 use Rattle.session_book.proofs.Moments.{earlier_stay, earlier_yet, join_timed, last_timed, same_last, timed_more, timed_runs_stay}
-use Rattle.session_book.proofs.Runs.{Makes, RunGrounds, bound_new, entries_behind, last_run, spells_on}
+use Rattle.session_book.proofs.Runs.{Makes, bound_new, entries_behind, last_run, spells_on}
 use Rattle.session_book.proofs.Spells.{Keeps, spells_within, spells_without}
 use Rattle.session_book.proofs.TextRuns.{items_stand}
 

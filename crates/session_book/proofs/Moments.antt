@@ -23,7 +23,7 @@ use Rattle.session_book.specs.Moments.{AreEarlier, BeatsBehind, IsTimed, TimedRu
 use Rattle.session_book.specs.Runs.{Handled, bodies_of}
 use Rattle.session_book.specs.Spells.{Placed, Spell, items_at}
 use Rattle.session_book.specs.Texts.{WasSent}
-use Rattle.session_book.proofs.Runs.{RunGrounds}
+use Rattle.session_book.specs.Grounds.{RunGrounds}
 use Rattle.session_book.proofs.Telling.{same_entry}
 use Rattle.session_book.proofs.TextRuns.{items_stand, sent_stands}
 

@@ -30,9 +30,10 @@ use Rattle.session_book.specs.Runs.{Handled, IsInside, IsRunBegun, IsRunOver, Is
 use Rattle.session_book.specs.Spells.{is_act, is_act_of, placed, placed_from}
 use Rattle.session_book.specs.Told.{CarriesOut, TellActs, TellsAct}
 use Rattle.session_book.specs.Words.{after_timeout, after_word, send_items, with_news}
+use Rattle.session_book.specs.Grounds.{RunGrounds}
 use Rattle.session_book.proofs.Carried.{bound_with, carried_with}
 use Rattle.session_book.proofs.LeaseEntries.{AddsLeases, adds_one, adds_shown, adds_timed, leases_keep, leases_no_acts, leases_outside, reply_is_lease, sends_go_on}
-use Rattle.session_book.proofs.Runs.{Makes, RunGrounds, acts_keep, begun_on, body_logged, closed_on, filter_no, opened_on, opening_begun, quiet_on, told_each, within_on}
+use Rattle.session_book.proofs.Runs.{Makes, acts_keep, begun_on, body_logged, closed_on, filter_no, opened_on, opening_begun, quiet_on, told_each, within_on}
 use Rattle.session_book.proofs.Carrying.{no_tick_off}
 use Rattle.session_book.proofs.Spells.{NoMachine, changed_last}
 

@@ -12,7 +12,6 @@ use Rattle.message_log.specs.declared.entry.OutEntry.{OutEntry}
 use Rattle.resend_plan.specs.Wire.{no_entry}
 use Rattle.session_core.specs.Admin.{admin_text, is_tick_text}
 use Rattle.session_core.specs.Ask.{after_ask}
-use Rattle.session_core.specs.Laws.{ActsOfMessages, ActsOfTicks, MomentsDontMatter, RunsInParts, SamenessLaws, TextsOfMessages}
 use Rattle.session_core.specs.Runs.{SameButMoments, after_connection, after_connections, behind_all, connection_acts}
 use Rattle.session_core.specs.State.{State, after_leave}
 use Rattle.session_core.specs.Tasks.{is_tick_act}
@@ -23,20 +22,9 @@ use Rattle.session_book.specs.Book.{Book}
 use Rattle.session_book.specs.Runs.{Handled, IsInside, IsRunBegun, IsRunOver, IsWithin, StandsBehind, TellEach, TellRuns, bodies_of, handled_of}
 use Rattle.session_book.specs.Spells.{Placed, Spell, act_entries, is_act, is_act_of, logged_body, new_spell, placed, placed_from, spell_with, spells_behind, spells_from}
 use Rattle.session_book.specs.Told.{IsLogged, TellActs, TellsAct}
-use Rattle.session_book.proofs.Carried.{EntriesStay, tells_on}
+use Rattle.session_book.specs.Grounds.{RunGrounds}
+use Rattle.session_book.proofs.Carried.{tells_on}
 use Rattle.session_book.proofs.Spells.{Keeps, NoMachine, acts_with, bound_stays, inside_bound, inside_none, keeps_bound, placed_join, spells_join, spells_within, spells_without}
-use Rattle.session_book.proofs.Telling.{Grounds}
-
--- what is needed of the crates below
-pub record RunGrounds : Type 0 where
-  pub logs : Grounds
-  pub stay : EntriesStay
-  pub moments : MomentsDontMatter
-  pub parts : RunsInParts
-  pub same : SamenessLaws
-  pub texts : TextsOfMessages
-  pub acts : ActsOfMessages
-  pub ticks : ActsOfTicks
 
 pub filter_yes : {X : Type 0} (p : X → Bool) (x : X) (xs : List X) → p x ≡ true → filter p (x ∷ xs) ≡ x ∷ filter p xs
 filter_yes p x xs e = ap (λ (b : Bool). if b then x ∷ filter p xs else filter p xs) e

@@ -19,9 +19,9 @@ use Rattle.session_book.specs.Book.{Book, Desk, with_event, with_machine, with_o
 use Rattle.session_book.specs.Kept.{IsBook}
 use Rattle.session_book.specs.Sends.{AreSendsOf, new_sends}
 use Rattle.session_book.specs.Words.{after_timeout, after_word, shown_sends}
+use Rattle.session_book.specs.Grounds.{RunGrounds}
 use Rattle.session_book.proofs.Carried.{bound_with, carried_with}
 use Rattle.session_book.proofs.RunEvents.{makes_of}
-use Rattle.session_book.proofs.Runs.{RunGrounds}
 use Rattle.session_book.proofs.SendRuns.{NoSend, acts_no_sends, aside_sends, reply_no_send, same_sends, shown_book, timed_book}
 use Rattle.session_book.proofs.Telling.{LogsAgree}
 

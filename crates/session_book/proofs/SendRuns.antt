@@ -29,8 +29,9 @@ use Rattle.session_book.specs.Sends.{AreSendsOf, HasSend, IsLoggedSend, new_send
 use Rattle.session_book.specs.Spells.{Placed, placed, placed_from}
 use Rattle.session_book.specs.Told.{TellActs, TellsAct}
 use Rattle.session_book.specs.Words.{sent_entry, shown_sends, with_sends}
+use Rattle.session_book.specs.Grounds.{RunGrounds}
 use Rattle.session_book.proofs.News.{named}
-use Rattle.session_book.proofs.Runs.{Makes, RunGrounds, entries_behind}
+use Rattle.session_book.proofs.Runs.{Makes, entries_behind}
 use Rattle.session_book.proofs.Spells.{placed_join}
 use Rattle.session_book.proofs.Telling.{LogsAgree, agree_sent, news_is, sends_from_first, sent_is, series_are}
 

@@ -6,7 +6,7 @@ use Rattle.std.proofs.lemmas.Bool.{cond-true, eq-eqb}
 use Rattle.std.proofs.lemmas.List.Elements.{All-append, All-cons, All-nil}
 use Rattle.std.proofs.lemmas.List.{append-nil, length-map, take-append-drop, take-append-le, take_all, length_push, map-append}
 use Rattle.connection_core.specs.Outgoing.{Outgoing, with_items}
-use Rattle.lease_core.specs.Laws.{EntriesDecide, EntriesDecideOver}
+use Rattle.lease_core.specs.Laws.{EntriesDecideOver}
 use Rattle.lease_core.specs.State.{State as Totals, last_lease, last_or, no_lease, one_more, owner_in, owner_of, sent_in_series, with_last, series_of, state_after, state_of}
 use Rattle.lease_core.specs.declared.entry.Entry.{Entry}
 use Rattle.lease_core.specs.declared.entry.Entry.TheVariants.{Arrive, Admin, Bind, Plan, Leave, Reset, Granted, Refused, Send, Release, Timeout, Hold, Lapse}
@@ -30,6 +30,7 @@ use Rattle.session_book.specs.Kept.{IsBook}
 use Rattle.session_book.specs.Items.{HasWhatWasSent, QueuesWhatIsTold, is_connection, items_for, items_from, items_of_entry}
 use Rattle.session_book.proofs.Books.{lengths, lengths_pushed, series_pushed}
 use Rattle.session_book.specs.Words.{after_timeout, after_word, new_items, sent_entry, shown_sends, where_bound, with_sends}
+use Rattle.session_book.specs.Grounds.{Grounds, LogsGoOn, NamesStay, SeriesBegin}
 use Rattle.lease_core.specs.Steps.{entry_with, hold_entry, send_entry}
 use Rattle.lease_core.specs.declared.messages.Reply.{Reply}
 use Rattle.lease_core.specs.declared.messages.Reply.TheVariants.{Granted as ToGranted, Refused as ToRefused}
@@ -41,19 +42,6 @@ use Rattle.lease_core.specs.declared.word.Word.{Word}
 use Rattle.session_book.proofs.News.{begun_sent, last_changed, last_length, length_changed, lengths_sent, named, pushes, series_held, series_sent, series_stood}
 use Rattle.lease_core.specs.declared.lease.Lease.{Lease}
 use Rattle.lease_core.specs.declared.lease.Line.{Line}
-
--- a series of the later log begins with that of the earlier one
-abbrev pub SeriesBegin : Type 0
-SeriesBegin = (earlier later : List (List OutEntry)) (k : ℕ) → GoesOn earlier later → take (length (series_at earlier k)) (series_at later k) ≡ series_at earlier k
-
-abbrev pub NamesStay : Type 0
-NamesStay = (earlier later : List (List OutEntry)) (items : List WireItem) → GoesOn earlier later → All (NamesEntry earlier) items → All (NamesEntry later) items
-
-abbrev pub PlansNameEntries : Type 0
-PlansNameEntries = (log : List (List OutEntry)) (series begin last at : ℕ) → All (NamesEntry log) (plan_of (series_at log series) series begin last at)
-
-abbrev pub LogsGoOn : Type 0
-LogsGoOn = (first second third : List (List OutEntry)) → GoesOn first second → GoesOn second third → GoesOn first third
 
 module _ (begins : SeriesBegin) where
   pub longer : (earlier later : List (List OutEntry)) (k : ℕ) → GoesOn earlier later → length (series_at earlier k) ≤ length (series_at later k)
@@ -173,18 +161,6 @@ one_entry begins c book new e items out outgoing is bound on entries_are told na
       named = subst (All (NamesEntry new.outbound)) (sym (told_one c new.outbound s e items bound told)) named;
       queued = outgoing_is ∙ ap (λ found. with_items found out) (sym (told_one c new.outbound s e items bound told));
     }
-
--- what is needed of the crates below
-pub record Grounds : Type 0 where
-  pub begins : SeriesBegin
-  pub itself : (log : List (List OutEntry)) → GoesOn log log
-  pub entry : (log : List (List OutEntry)) (entry : OutEntry) → GoesOn log (with_entry log entry)
-  pub series : (log : List (List OutEntry)) → GoesOn log (log ++ [] ∷ [])
-  pub further : LogsGoOn
-  pub decide : EntriesDecide
-  pub decide_over : EntriesDecideOver
-  pub names : NamesStay
-  pub plans : PlansNameEntries
 
 pub none_named : (log : List (List OutEntry)) → All (NamesEntry log) []
 none_named log = All-nil (NamesEntry log)

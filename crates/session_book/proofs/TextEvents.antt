@@ -22,9 +22,10 @@ use Rattle.session_book.specs.Items.{QueuesWhatIsTold}
 use Rattle.session_book.specs.Kept.{IsBook}
 use Rattle.session_book.specs.Texts.{IsTextOf}
 use Rattle.session_book.specs.Words.{after_timeout, after_word, shown_sends, with_news}
+use Rattle.session_book.specs.Grounds.{RunGrounds}
 use Rattle.session_book.proofs.Carried.{bound_with, carried_with}
 use Rattle.session_book.proofs.LeaseEntries.{AddsLeases, adds_one, adds_shown, adds_timed, leases_keep, reply_is_lease, sends_go_on}
-use Rattle.session_book.proofs.Runs.{Makes, RunGrounds, acts_keep}
+use Rattle.session_book.proofs.Runs.{Makes, acts_keep}
 use Rattle.session_book.proofs.RunEvents.{makes_of}
 use Rattle.session_book.proofs.Spells.{Keeps}
 use Rattle.session_book.proofs.Telling.{binding_tells, dial_tells, lapse_tells, message_tells, request_tells, tick_tells, timeout_tells, word_tells}

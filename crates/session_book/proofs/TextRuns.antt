@@ -20,7 +20,8 @@ use Rattle.session_book.specs.Book.{Book, Desk}
 use Rattle.session_book.specs.Items.{HasWhatWasSent, QueuesWhatIsTold, is_connection, items_behind_entries, items_from, items_of_entry}
 use Rattle.session_book.specs.Spells.{Placed, Spell, items_at, new_spell, placed, placed_from, spell_items, spell_with, spells_behind, spells_from}
 use Rattle.session_book.specs.Texts.{IsTextOf, WasSent}
-use Rattle.session_book.proofs.Runs.{Makes, RunGrounds, bound_new, entries_behind, spells_on}
+use Rattle.session_book.specs.Grounds.{RunGrounds}
+use Rattle.session_book.proofs.Runs.{Makes, bound_new, entries_behind, spells_on}
 use Rattle.session_book.proofs.Spells.{Keeps, bound_kept, bound_stays, spells_within, spells_without}
 use Rattle.session_book.proofs.Telling.{longer, same_entry}
 

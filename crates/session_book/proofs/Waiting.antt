@@ -28,10 +28,11 @@ use Rattle.session_book.specs.Book.{Book, Desk, present_series, with_event, with
 use Rattle.session_book.specs.Kept.{AreNamesOf, IsBook}
 use Rattle.session_book.specs.Waiting.{CanBeWritten, StaysWritable, written_names}
 use Rattle.session_book.specs.Words.{after_timeout, after_word, new_items, send_items, sent_entry, where_bound, with_news, with_sends}
+use Rattle.session_book.specs.Grounds.{Grounds}
 use Rattle.session_book.proofs.Books.{names_sent, series_pushed}
 use Rattle.session_book.proofs.LeaseEntries.{sends_go_on}
 use Rattle.session_book.proofs.News.{begun_sent, present}
-use Rattle.session_book.proofs.Telling.{Grounds, none_named, one_named, pushed_named, with_both, with_nothing}
+use Rattle.session_book.proofs.Telling.{none_named, one_named, pushed_named, with_both, with_nothing}
 use Rattle.session_book.proofs.TextRuns.{ItemsGrow, ItemsQueue}
 
 -- a message keeps the names of a session

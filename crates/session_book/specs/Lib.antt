@@ -5,6 +5,7 @@ pub mod Kept
 pub mod Leases
 pub mod Items
 pub mod Told
+pub mod Grounds
 pub mod Spells
 pub mod Runs
 pub mod Texts

@@ -1,4 +1,5 @@
-//! Laws of the definitions. Each is the contract of a function that does nothing.
+//! Laws of a session's events: what its journal tells of acts, runs, texts, sends and moments behind each of
+//! them. Each is the contract of a function that does nothing.
 
 ghost use Rattle.std.specs.Prelude.{◌≡◌, ◌≢◌, ◌≤◌, ◌⊎◌, ℕ, List, [], ◌∷◌, ◌++◌, Option, None, Some, length, take, All};
 ghost use Rattle.connection_core.specs.Items.{AreItemsOf};
@@ -10,6 +11,7 @@ ghost use Rattle.lease_core.specs.Runs.{IsNext, IsRun};
 ghost use Rattle.lease_core.specs.State.{state_of};
 ghost use Rattle.session_book.specs.Acts.{IsBegun, after_acts, after_binding, after_dial, after_end, after_lapse, after_message, after_request, after_ticking};
 ghost use Rattle.session_book.specs.Book.{Book, Desk, with_event, with_machine, with_outbox};
+ghost use Rattle.session_book.specs.Grounds.{Grounds, RunGrounds};
 ghost use Rattle.session_book.specs.Items.{QueuesWhatIsTold};
 ghost use Rattle.session_book.specs.Leases.{HasSameLeases};
 ghost use Rattle.lease_core.specs.declared.word.Word.{Word};
@@ -44,6 +46,25 @@ use session_core::laws::{
     sameness_laws, texts_of_messages,
 };
 
+/// What these laws need of the crates below: of the logs and the entries of a journal, and of the
+/// session machine.
+fn grounds()
+    ensures logs { Grounds }
+    ensures runs { RunGrounds }
+{
+    entries_decide_one_by_one();
+    entries_stay();
+    logs_go_on();
+    moments_dont_matter();
+    runs_in_parts();
+    sameness_laws();
+    texts_of_messages();
+    acts_of_messages();
+    acts_of_ticks();
+    items_stay();
+    plans_answer();
+}
+
 /// What comes to wait on the bound connection is what the journal tells, in order: one item for each
 /// message that is numbered, and those of each plan over the log up to there.
 pub fn what_is_told_is_queued()
@@ -62,11 +83,7 @@ pub fn what_is_told_is_queued()
     // One event behind another.
     ensures further { (c : ℕ) (first second third : Desk) → QueuesWhatIsTold c first second → QueuesWhatIsTold c second third → QueuesWhatIsTold c first third }
 {
-    entries_decide_one_by_one();
-    entries_stay();
-    logs_go_on();
-    items_stay();
-    plans_answer();
+    grounds();
 }
 
 /// The acts of the session machine are what the journal tells, one entry for each act, in order.
@@ -79,11 +96,7 @@ pub fn acts_are_told()
     ensures dial { (c at : ℕ) (desk : Desk) → IsBook desk.book
         → CarriesOut (ask desk.book.machine).acts (with_outbox (with_event (Binds c) desk.book) desk.outgoing) (after_dial at c desk) }
 {
-    entries_decide_one_by_one();
-    entries_stay();
-    logs_go_on();
-    items_stay();
-    plans_answer();
+    grounds();
 }
 
 /// The journal tells of the session's connections, one after another, and of what was handled of
@@ -114,17 +127,7 @@ pub fn runs_are_told()
     ensures lapse { (before : List Entry) (start : State) (handled : List Handled) (book : Book)
         → IsRunOver before start handled book → IsRunOver before start handled (after_lapse book) }
 {
-    entries_decide_one_by_one();
-    entries_stay();
-    logs_go_on();
-    moments_dont_matter();
-    runs_in_parts();
-    sameness_laws();
-    texts_of_messages();
-    acts_of_messages();
-    acts_of_ticks();
-    items_stay();
-    plans_answer();
+    grounds();
 }
 
 /// Where memory was wanting the journal tells of a beginning of the acts.
@@ -144,17 +147,7 @@ pub fn runs_are_begun()
         → IsBegun at (tick desk.book.machine at).acts (with_outbox (with_machine (after_tick desk.book.machine at) desk.book) desk.outgoing) new
         → IsRunOver before start handled desk.book → IsRunOver before start handled new.book }
 {
-    entries_decide_one_by_one();
-    entries_stay();
-    logs_go_on();
-    moments_dont_matter();
-    runs_in_parts();
-    sameness_laws();
-    texts_of_messages();
-    acts_of_messages();
-    acts_of_ticks();
-    items_stay();
-    plans_answer();
+    grounds();
 }
 
 /// What is queued on a connection is what the journal tells of it, in order, and so what is written
@@ -194,19 +187,9 @@ pub fn texts_are_told()
     // What has no text names entries of the log, as `prepare` wants it.
     ensures unmade { (names : Names2) (before : List Entry) (c : ℕ) (book : Book) (out : Outgoing) → IsTextOf names before c book out → All (NamesEntry book.outbound) out.unmade }
 {
-    entries_decide_one_by_one();
-    entries_stay();
-    logs_go_on();
-    moments_dont_matter();
-    runs_in_parts();
-    sameness_laws();
-    texts_of_messages();
-    acts_of_messages();
-    acts_of_ticks();
+    grounds();
     items_stay_queued();
     items_have_text();
-    items_stay();
-    plans_answer();
 }
 
 /// The outbound text of a connection stays what it is while the session goes on with others.
@@ -229,18 +212,8 @@ pub fn texts_stay()
     ensures dial { (names : Names2) (before : List Entry) (c d at : ℕ) (desk : Desk) (out : Outgoing) → IsBook desk.book → d ≢ c
         → IsTextOf names before c desk.book out → IsTextOf names before c (after_dial at d desk).book out }
 {
-    entries_decide_one_by_one();
-    entries_stay();
-    logs_go_on();
-    moments_dont_matter();
-    runs_in_parts();
-    sameness_laws();
-    texts_of_messages();
-    acts_of_messages();
-    acts_of_ticks();
+    grounds();
     items_stay_queued();
-    items_stay();
-    plans_answer();
 }
 
 /// What the outbound log has for a library's sends is what was taken from it, in order: each body as
@@ -267,17 +240,7 @@ pub fn sends_are_told()
         → AreSendsOf library before sends book → AreSendsOf library before sends (after_request by nr from book) }
     ensures lapse { (library : ℕ) (before : List Entry) (sends : List OutEntry) (book : Book) → AreSendsOf library before sends book → AreSendsOf library before sends (after_lapse book) }
 {
-    entries_decide_one_by_one();
-    entries_stay();
-    logs_go_on();
-    moments_dont_matter();
-    runs_in_parts();
-    sameness_laws();
-    texts_of_messages();
-    acts_of_messages();
-    acts_of_ticks();
-    items_stay();
-    plans_answer();
+    grounds();
 }
 
 /// A Heartbeat that answers no TestRequest comes where nothing was sent on its connection for
@@ -309,17 +272,8 @@ pub fn beats_come_in_time()
     ensures lapse { (before : List Entry) (start : State) (handled : List Handled) (moment : ℕ) (desk : Desk) → IsBook desk.book
         → IsTimedRun before start handled moment desk.book → IsTimedRun before start handled moment (after_lapse desk.book) }
 {
-    entries_decide_one_by_one();
-    entries_stay();
-    logs_go_on();
-    moments_dont_matter();
-    runs_in_parts();
-    sameness_laws();
+    grounds();
     phases_follow();
-    texts_of_messages();
-    acts_of_messages();
-    acts_of_ticks();
-    items_stay();
     plans_answer();
 }
 
@@ -357,14 +311,9 @@ pub fn what_waits_can_be_written()
     // What has no text names entries of the log, as `prepare` wants it.
     ensures unmade { (book : Book) (out : Outgoing) → CanBeWritten book out → All (NamesEntry book.outbound) out.unmade }
 {
-    entries_decide_one_by_one();
-    entries_stay();
-    logs_go_on();
-    sameness_laws();
+    grounds();
     items_stay_queued();
     items_have_text();
-    items_stay();
-    plans_answer();
 }
 
 /// What the session machine asks for, and the Bind and the end of a connection, leave the leases as they
@@ -432,11 +381,7 @@ pub fn sessions_go_on()
     // What was accepted stays where it is.
     ensures accepted { (before book : Book) → WentOn before book → take (length before.inbound) book.inbound ≡ before.inbound }
 {
-    entries_decide_one_by_one();
-    entries_stay();
-    logs_go_on();
-    items_stay();
-    plans_answer();
+    grounds();
 }
 
 /// Only what is received comes to the inbound log.
@@ -489,18 +434,8 @@ pub fn messages_are_marked()
         → IsAllMarked read → IsAllMarked (after_read e at body read) }
     ensures resume { (us them : List ℕ) (dials : Option ℕ) (expected until : ℕ) (read : ReadBack) → IsAllMarked read → IsAllMarked (read_of (after_resume us them dials expected until read)) }
 {
-    entries_decide_one_by_one();
-    entries_stay();
-    logs_go_on();
-    moments_dont_matter();
-    runs_in_parts();
-    sameness_laws();
-    texts_of_messages();
-    acts_of_messages();
-    acts_of_ticks();
+    grounds();
     texts_tell_session_entries();
-    items_stay();
-    plans_answer();
 }
 
 /// Records that no session leaves: logs of which no entry tells, and entries that no connection asked

@@ -2,48 +2,25 @@ use Rattle.session_core.specs.Ask.{after_ask, ask}
 use Rattle.session_core.specs.Receive.{after_receive, receive}
 use Rattle.session_core.specs.Tick.{after_tick, tick}
 use Rattle.session_book.proofs.Marks.{acts_marks, begun_marks, lapse_marks, leave_marks, open_marks, opening_marks, read_marks, request_marks, resume_marks, timeout_marks, word_marks}
-use Rattle.session_book.proofs.Runs.{RunGrounds}
 use Rattle.session_book.proofs.laws.messages_are_marked.Goals as goal
 
-grounds : goal.After-plans_answer → RunGrounds
-grounds c = record {
-  logs = record {
-    begins = c.entries_stay.ensures.beginning;
-    itself = c.logs_go_on.ensures.itself;
-    entry = c.logs_go_on.ensures.entry;
-    series = c.logs_go_on.ensures.series;
-    further = c.logs_go_on.ensures.further;
-    decide = c.entries_decide_one_by_one.ensures.state;
-    decide_over = c.entries_decide_one_by_one.ensures.states;
-    names = c.items_stay.ensures.all_named;
-    plans = c.plans_answer.ensures.named;
-  };
-  stay = c.entries_stay.ensures.entry;
-  moments = c.moments_dont_matter.ensures;
-  parts = c.runs_in_parts.ensures;
-  same = c.sameness_laws.ensures;
-  texts = c.texts_of_messages.ensures;
-  acts = c.acts_of_messages.ensures;
-  ticks = c.acts_of_ticks.ensures;
-}
-
 pub returns-clause-message : goal.returns-clause-message
-returns-clause-message c = λ at body desk. acts_marks (grounds c) c.texts_tell_session_entries.ensures at (receive desk.book.machine body at).acts (after_receive desk.book.machine body at) desk
+returns-clause-message c = λ at body desk. acts_marks c.grounds.ensures.runs c.texts_tell_session_entries.ensures at (receive desk.book.machine body at).acts (after_receive desk.book.machine body at) desk
 
 pub returns-clause-bind : goal.returns-clause-bind
-returns-clause-bind c = λ k at body desk. open_marks (grounds c) c.texts_tell_session_entries.ensures k at (receive desk.book.machine body at).acts (after_receive desk.book.machine body at) desk
+returns-clause-bind c = λ k at body desk. open_marks c.grounds.ensures.runs c.texts_tell_session_entries.ensures k at (receive desk.book.machine body at).acts (after_receive desk.book.machine body at) desk
 
 pub returns-clause-dial : goal.returns-clause-dial
-returns-clause-dial c = λ k at desk. open_marks (grounds c) c.texts_tell_session_entries.ensures k at (ask desk.book.machine).acts (after_ask desk.book.machine at) desk
+returns-clause-dial c = λ k at desk. open_marks c.grounds.ensures.runs c.texts_tell_session_entries.ensures k at (ask desk.book.machine).acts (after_ask desk.book.machine at) desk
 
 pub returns-clause-tick : goal.returns-clause-tick
-returns-clause-tick c = λ at desk. acts_marks (grounds c) c.texts_tell_session_entries.ensures at (tick desk.book.machine at).acts (after_tick desk.book.machine at) desk
+returns-clause-tick c = λ at desk. acts_marks c.grounds.ensures.runs c.texts_tell_session_entries.ensures at (tick desk.book.machine at).acts (after_tick desk.book.machine at) desk
 
 pub returns-clause-word : goal.returns-clause-word
-returns-clause-word c = word_marks (grounds c)
+returns-clause-word c = word_marks c.grounds.ensures.runs
 
 pub returns-clause-timeout : goal.returns-clause-timeout
-returns-clause-timeout c = timeout_marks (grounds c)
+returns-clause-timeout c = timeout_marks c.grounds.ensures.runs
 
 pub returns-clause-leave : goal.returns-clause-leave
 returns-clause-leave c = leave_marks
@@ -55,13 +32,13 @@ pub returns-clause-lapse : goal.returns-clause-lapse
 returns-clause-lapse c = lapse_marks
 
 pub returns-clause-begun : goal.returns-clause-begun
-returns-clause-begun c = begun_marks (grounds c) c.texts_tell_session_entries.ensures
+returns-clause-begun c = begun_marks c.grounds.ensures.runs c.texts_tell_session_entries.ensures
 
 pub returns-clause-opened : goal.returns-clause-opened
-returns-clause-opened c = opening_marks (grounds c) c.texts_tell_session_entries.ensures
+returns-clause-opened c = opening_marks c.grounds.ensures.runs c.texts_tell_session_entries.ensures
 
 pub returns-clause-read : goal.returns-clause-read
-returns-clause-read c = read_marks (grounds c)
+returns-clause-read c = read_marks c.grounds.ensures.runs
 
 pub returns-clause-resume : goal.returns-clause-resume
 returns-clause-resume c = resume_marks

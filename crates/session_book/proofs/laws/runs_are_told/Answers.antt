@@ -1,55 +1,32 @@
 use Rattle.session_book.proofs.RunEvents.{binding_run, dial_run, first_run, lapse_run, leave_run, message_run, request_run, tick_run, timeout_run, word_run}
-use Rattle.session_book.proofs.Runs.{RunGrounds}
 use Rattle.session_book.proofs.laws.runs_are_told.Goals as goal
 
-grounds : goal.After-plans_answer → RunGrounds
-grounds c = record {
-  logs = record {
-    begins = c.entries_stay.ensures.beginning;
-    itself = c.logs_go_on.ensures.itself;
-    entry = c.logs_go_on.ensures.entry;
-    series = c.logs_go_on.ensures.series;
-    further = c.logs_go_on.ensures.further;
-    decide = c.entries_decide_one_by_one.ensures.state;
-    decide_over = c.entries_decide_one_by_one.ensures.states;
-    names = c.items_stay.ensures.all_named;
-    plans = c.plans_answer.ensures.named;
-  };
-  stay = c.entries_stay.ensures.entry;
-  moments = c.moments_dont_matter.ensures;
-  parts = c.runs_in_parts.ensures;
-  same = c.sameness_laws.ensures;
-  texts = c.texts_of_messages.ensures;
-  acts = c.acts_of_messages.ensures;
-  ticks = c.acts_of_ticks.ensures;
-}
-
 pub returns-clause-first : goal.returns-clause-first
-returns-clause-first c = λ book none. first_run book none c.sameness_laws.ensures.reflexive
+returns-clause-first c = λ book none. first_run book none c.grounds.ensures.runs.same.reflexive
 
 pub returns-clause-bind : goal.returns-clause-bind
-returns-clause-bind c = binding_run (grounds c)
+returns-clause-bind c = binding_run c.grounds.ensures.runs
 
 pub returns-clause-dial : goal.returns-clause-dial
-returns-clause-dial c = dial_run (grounds c)
+returns-clause-dial c = dial_run c.grounds.ensures.runs
 
 pub returns-clause-message : goal.returns-clause-message
-returns-clause-message c = message_run (grounds c)
+returns-clause-message c = message_run c.grounds.ensures.runs
 
 pub returns-clause-leave : goal.returns-clause-leave
-returns-clause-leave c = leave_run (grounds c)
+returns-clause-leave c = leave_run c.grounds.ensures.runs
 
 pub returns-clause-tick : goal.returns-clause-tick
-returns-clause-tick c = tick_run (grounds c)
+returns-clause-tick c = tick_run c.grounds.ensures.runs
 
 pub returns-clause-word : goal.returns-clause-word
-returns-clause-word c = word_run (grounds c)
+returns-clause-word c = word_run c.grounds.ensures.runs
 
 pub returns-clause-timeout : goal.returns-clause-timeout
-returns-clause-timeout c = timeout_run (grounds c)
+returns-clause-timeout c = timeout_run c.grounds.ensures.runs
 
 pub returns-clause-request : goal.returns-clause-request
-returns-clause-request c = request_run (grounds c)
+returns-clause-request c = request_run c.grounds.ensures.runs
 
 pub returns-clause-lapse : goal.returns-clause-lapse
-returns-clause-lapse c = lapse_run (grounds c)
+returns-clause-lapse c = lapse_run c.grounds.ensures.runs

@@ -1,55 +1,32 @@
-use Rattle.session_book.proofs.Runs.{RunGrounds}
 use Rattle.session_book.proofs.SendEvents.{binding_sends, dial_sends, first_sends, lapse_sends, leave_sends, message_sends, request_sends, tick_sends, timeout_sends, word_sends}
 use Rattle.session_book.proofs.laws.sends_are_told.Goals as goal
-
-grounds : goal.After-plans_answer → RunGrounds
-grounds c = record {
-  logs = record {
-    begins = c.entries_stay.ensures.beginning;
-    itself = c.logs_go_on.ensures.itself;
-    entry = c.logs_go_on.ensures.entry;
-    series = c.logs_go_on.ensures.series;
-    further = c.logs_go_on.ensures.further;
-    decide = c.entries_decide_one_by_one.ensures.state;
-    decide_over = c.entries_decide_one_by_one.ensures.states;
-    names = c.items_stay.ensures.all_named;
-    plans = c.plans_answer.ensures.named;
-  };
-  stay = c.entries_stay.ensures.entry;
-  moments = c.moments_dont_matter.ensures;
-  parts = c.runs_in_parts.ensures;
-  same = c.sameness_laws.ensures;
-  texts = c.texts_of_messages.ensures;
-  acts = c.acts_of_messages.ensures;
-  ticks = c.acts_of_ticks.ensures;
-}
 
 pub returns-clause-first : goal.returns-clause-first
 returns-clause-first c = first_sends
 
 pub returns-clause-word : goal.returns-clause-word
-returns-clause-word c = word_sends (grounds c)
+returns-clause-word c = word_sends c.grounds.ensures.runs
 
 pub returns-clause-timeout : goal.returns-clause-timeout
-returns-clause-timeout c = timeout_sends (grounds c)
+returns-clause-timeout c = timeout_sends c.grounds.ensures.runs
 
 pub returns-clause-message : goal.returns-clause-message
-returns-clause-message c = message_sends (grounds c)
+returns-clause-message c = message_sends c.grounds.ensures.runs
 
 pub returns-clause-tick : goal.returns-clause-tick
-returns-clause-tick c = tick_sends (grounds c)
+returns-clause-tick c = tick_sends c.grounds.ensures.runs
 
 pub returns-clause-bind : goal.returns-clause-bind
-returns-clause-bind c = binding_sends (grounds c)
+returns-clause-bind c = binding_sends c.grounds.ensures.runs
 
 pub returns-clause-dial : goal.returns-clause-dial
-returns-clause-dial c = dial_sends (grounds c)
+returns-clause-dial c = dial_sends c.grounds.ensures.runs
 
 pub returns-clause-leave : goal.returns-clause-leave
-returns-clause-leave c = leave_sends (grounds c)
+returns-clause-leave c = leave_sends c.grounds.ensures.runs
 
 pub returns-clause-request : goal.returns-clause-request
-returns-clause-request c = request_sends (grounds c)
+returns-clause-request c = request_sends c.grounds.ensures.runs
 
 pub returns-clause-lapse : goal.returns-clause-lapse
-returns-clause-lapse c = lapse_sends (grounds c)
+returns-clause-lapse c = lapse_sends c.grounds.ensures.runs

@@ -1,58 +1,44 @@
-use Rattle.session_book.proofs.Telling.{Grounds}
 use Rattle.session_book.proofs.Waiting.{binding_begun, binding_waits, dial_begun, dial_waits, lapse_waits, leave_waits, message_begun, message_waits, request_waits, tick_begun, tick_waits, timeout_waits, word_waits, written_here, written_kept, written_there}
 use Rattle.session_book.proofs.laws.what_waits_can_be_written.Goals as goal
 
-grounds : goal.After-plans_answer → Grounds
-grounds c = record {
-  begins = c.entries_stay.ensures.beginning;
-  itself = c.logs_go_on.ensures.itself;
-  entry = c.logs_go_on.ensures.entry;
-  series = c.logs_go_on.ensures.series;
-  further = c.logs_go_on.ensures.further;
-  decide = c.entries_decide_one_by_one.ensures.state;
-  decide_over = c.entries_decide_one_by_one.ensures.states;
-  names = c.items_stay.ensures.all_named;
-  plans = c.plans_answer.ensures.named;
-}
-
 pub returns-clause-message : goal.returns-clause-message
-returns-clause-message c = message_waits (grounds c) c.items_stay_queued.ensures.grow c.items_stay_queued.ensures.queue
+returns-clause-message c = message_waits c.grounds.ensures.logs c.items_stay_queued.ensures.grow c.items_stay_queued.ensures.queue
 
 pub returns-clause-bind : goal.returns-clause-bind
-returns-clause-bind c = binding_waits (grounds c) c.items_stay_queued.ensures.grow c.items_stay_queued.ensures.queue
+returns-clause-bind c = binding_waits c.grounds.ensures.logs c.items_stay_queued.ensures.grow c.items_stay_queued.ensures.queue
 
 pub returns-clause-dial : goal.returns-clause-dial
-returns-clause-dial c = dial_waits (grounds c) c.items_stay_queued.ensures.grow c.items_stay_queued.ensures.queue
+returns-clause-dial c = dial_waits c.grounds.ensures.logs c.items_stay_queued.ensures.grow c.items_stay_queued.ensures.queue
 
 pub returns-clause-tick : goal.returns-clause-tick
-returns-clause-tick c = tick_waits (grounds c) c.items_stay_queued.ensures.grow c.items_stay_queued.ensures.queue c.sameness_laws.ensures
+returns-clause-tick c = tick_waits c.grounds.ensures.logs c.items_stay_queued.ensures.grow c.items_stay_queued.ensures.queue c.grounds.ensures.runs.same
 
 pub returns-clause-word : goal.returns-clause-word
-returns-clause-word c = word_waits (grounds c) c.items_stay_queued.ensures.grow c.items_stay_queued.ensures.queue
+returns-clause-word c = word_waits c.grounds.ensures.logs c.items_stay_queued.ensures.grow c.items_stay_queued.ensures.queue
 
 pub returns-clause-timeout : goal.returns-clause-timeout
-returns-clause-timeout c = timeout_waits (grounds c) c.items_stay_queued.ensures.grow c.items_stay_queued.ensures.queue
+returns-clause-timeout c = timeout_waits c.grounds.ensures.logs c.items_stay_queued.ensures.grow c.items_stay_queued.ensures.queue
 
 pub returns-clause-leave : goal.returns-clause-leave
-returns-clause-leave c = leave_waits (grounds c) c.items_stay_queued.ensures.grow c.items_stay_queued.ensures.queue
+returns-clause-leave c = leave_waits c.grounds.ensures.logs c.items_stay_queued.ensures.grow c.items_stay_queued.ensures.queue
 
 pub returns-clause-request : goal.returns-clause-request
-returns-clause-request c = request_waits (grounds c) c.items_stay_queued.ensures.grow c.items_stay_queued.ensures.queue
+returns-clause-request c = request_waits c.grounds.ensures.logs c.items_stay_queued.ensures.grow c.items_stay_queued.ensures.queue
 
 pub returns-clause-lapse : goal.returns-clause-lapse
-returns-clause-lapse c = lapse_waits (grounds c) c.items_stay_queued.ensures.grow c.items_stay_queued.ensures.queue
+returns-clause-lapse c = lapse_waits c.grounds.ensures.logs c.items_stay_queued.ensures.grow c.items_stay_queued.ensures.queue
 
 pub returns-clause-begun_message : goal.returns-clause-begun_message
-returns-clause-begun_message c = message_begun (grounds c) c.items_stay_queued.ensures.grow c.items_stay_queued.ensures.queue
+returns-clause-begun_message c = message_begun c.grounds.ensures.logs c.items_stay_queued.ensures.grow c.items_stay_queued.ensures.queue
 
 pub returns-clause-begun_bind : goal.returns-clause-begun_bind
-returns-clause-begun_bind c = binding_begun (grounds c) c.items_stay_queued.ensures.grow c.items_stay_queued.ensures.queue
+returns-clause-begun_bind c = binding_begun c.grounds.ensures.logs c.items_stay_queued.ensures.grow c.items_stay_queued.ensures.queue
 
 pub returns-clause-begun_dial : goal.returns-clause-begun_dial
-returns-clause-begun_dial c = dial_begun (grounds c) c.items_stay_queued.ensures.grow c.items_stay_queued.ensures.queue
+returns-clause-begun_dial c = dial_begun c.grounds.ensures.logs c.items_stay_queued.ensures.grow c.items_stay_queued.ensures.queue
 
 pub returns-clause-begun_tick : goal.returns-clause-begun_tick
-returns-clause-begun_tick c = tick_begun (grounds c) c.items_stay_queued.ensures.grow c.items_stay_queued.ensures.queue c.sameness_laws.ensures
+returns-clause-begun_tick c = tick_begun c.grounds.ensures.logs c.items_stay_queued.ensures.grow c.items_stay_queued.ensures.queue c.grounds.ensures.runs.same
 
 pub returns-clause-here : goal.returns-clause-here
 returns-clause-here c = written_here
