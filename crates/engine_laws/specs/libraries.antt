@@ -1,5 +1,6 @@
 -- What libraries ask, are told and send, over turns.
 pub mod Feeds
+pub mod Going
 pub mod Replies
 pub mod Sends
 pub mod Spans

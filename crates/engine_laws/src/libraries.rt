@@ -23,6 +23,7 @@ ghost use Rattle.library_desk.specs.declared.desk.LibraryDesk.{LibraryDesk};
 ghost use Rattle.library_desk.specs.declared.serving.LibTurn.{LibTurn};
 ghost use Rattle.library_desk.specs.declared.shared.Shared.{Shared};
 ghost use Rattle.engine_laws.specs.libraries.Feeds.{AreFed};
+ghost use Rattle.engine_laws.specs.libraries.Going.{GoingLaws};
 ghost use Rattle.engine_laws.specs.libraries.Replies.{AreAnswered, KeepsReplies, is_unasked};
 ghost use Rattle.engine_laws.specs.libraries.Sends.{AreLogged, AreTaken};
 ghost use Rattle.engine_laws.specs.libraries.Spans.{AllLieWithin};
@@ -70,6 +71,19 @@ pub fn requests_are_answered()
     replies_stay();
 }
 
+/// A session's owner keeps it by the same lease while the engine goes on, as the crates below say: what the two laws
+/// behind this one need of them.
+fn owners_go_on()
+    ensures { GoingLaws }
+{
+    boards_go_on();
+    boards_stay_in_step();
+    lines_go_on();
+    lines_tell_the_owner();
+    others_stay();
+    words_raise_lines();
+}
+
 /// What is pushed to a library of a session is of each lease the grant, once, and then the messages of the
 /// session's inbound log from the grant's replay position on, in order and without a gap: so it is where
 /// a run begins, and behind each turn.
@@ -88,14 +102,10 @@ pub fn messages_are_in_order()
     ensures gathers { (seats : List LibraryView) (at until : ℕ) (old : LibraryDesk) (gathered : LeaseDesk) → GathersAll at until (after_settling seats old.desk) gathered
         → AreFed old → AreFed (record old { desk = gathered }) }
 {
-    boards_go_on();
-    boards_stay_in_step();
     boards_stay_ready();
     last_lines_are_last();
-    lines_go_on();
     lines_tell_the_owner();
-    others_stay();
-    words_raise_lines();
+    owners_go_on();
 }
 
 /// Each message of a lease that is pushed to a library lies below the end of what the library holds of the session by
@@ -121,15 +131,12 @@ pub fn messages_lie_within_holdings()
         → AllLieWithin old → AllLieWithin (record old { desk = gathered }) }
 {
     boards_go_on();
-    boards_stay_in_step();
     boards_stay_ready();
     entries_decide_one_by_one();
     holdings_adjoin();
     last_lines_are_last();
-    lines_go_on();
     lines_tell_the_owner();
-    others_stay();
-    words_raise_lines();
+    owners_go_on();
 }
 
 /// The sends that a session's journal has of a library, behind the entries before, are what was taken of the

@@ -1,5 +1,5 @@
 -- The journals of a record tell the acts of what came on its connections.
-use Rattle.std.proofs.Common.{◌≡◌, ◌≢◌, ℕ, ◌<◌, ◌≤◌, List, [], ◌++◌, get_or, length, map, Option, None, Some, refl, sym, ap, subst, ◌∙◌, arith}
+use Rattle.std.proofs.Common.{◌≡◌, ◌≢◌, ℕ, ◌<◌, List, [], ◌++◌, get_or, length, map, Option, None, Some, refl, sym, ap, subst, ◌∙◌, arith}
 use Rattle.std.proofs.lemmas.List.{append-nil, get_or-map, length-map}
 use Rattle.std.specs.List.{All, AllPairs, Contains}
 use Rattle.connection_core.specs.Record.{record_of}
@@ -19,27 +19,14 @@ use Rattle.lease_core.specs.declared.entry.Entry.{Entry}
 use Rattle.lease_core.specs.declared.record.Record.{Record}
 use Rattle.library_desk.specs.declared.desk.Stray.{Stray}
 use Rattle.headline.specs.runs.Accounted.{first_machines, no_entries}
+use Rattle.headline.specs.Needed.{WholeLaws}
 use Rattle.run_report.specs.declared.records.RunRecord.{RunRecord}
 use Rattle.session_book.specs.Moments.{TimedRuns}
 use Rattle.session_book.specs.Runs.{Handled, IsInside, TellRuns, handled_of}
 use Rattle.session_book.specs.Spells.{placed_from, spells_behind}
-use Rattle.session_core.specs.State.{State}
 use Rattle.session_core.specs.declared.causes.Cause.{Cause}
 use Rattle.switchboard.specs.Board.{Board, book_at, connection_at, no_connection, session_at}
-use Rattle.switchboard.specs.Brought.{HasHandled, good_bodies}
-use Rattle.switchboard.specs.Sound.{bound_of}
-
--- what the laws say of an account
-pub record AccountLaws : Type 0 where
-  pub stands : (before : ℕ → List Entry) (start : ℕ → State) (at : ℕ) (board : Board) (accounted : IsAccountedFor before start at board) (k : ℕ) → k < length board.connections
-      → (connection_at board k).cause ≡ None → (accounted.brought k).pieces ≡ (cut LONGEST_FRAME (connection_at board k).taken).pieces
-  pub named : (before : ℕ → List Entry) (start : ℕ → State) (at : ℕ) (board : Board) (accounted : IsAccountedFor before start at board) (k s : ℕ) → k < length board.connections
-      → (connection_at board k).session ≡ Some s
-      → HasHandled (bound_of (book_at board s)) (connection_at board k).number (good_bodies (accounted.brought k).pieces) (accounted.history.handled s)
-  pub unbound : (before : ℕ → List Entry) (start : ℕ → State) (at : ℕ) (board : Board) (accounted : IsAccountedFor before start at board) (k : ℕ) → k < length board.connections
-      → (connection_at board k).session ≡ None → length (good_bodies (accounted.brought k).pieces) ≤ 1
-  pub waiting : (before : ℕ → List Entry) (start : ℕ → State) (at : ℕ) (board : Board) (accounted : IsAccountedFor before start at board) (k : ℕ) → k < length board.connections
-      → (connection_at board k).session ≡ None → (connection_at board k).cause ≡ None → good_bodies (accounted.brought k).pieces ≡ []
+use Rattle.switchboard.specs.Brought.{HasHandled}
 
 -- the messages that were handled of a connection stand with it among what a session handled
 pub bodies_are : (handled : List Handled) (bound : Option ℕ) (number : ℕ) (bodies : List (List ℕ)) → AllPairs (λ one later. one.connection ≢ later.connection) handled → HasHandled bound number bodies handled
@@ -59,7 +46,7 @@ handled_has handled bound number bodies has =
     (length has.past, omega arith, get_or-map (λ (h : Handled). h.connection) handled (length has.past) d number there ∙ ap (λ (h : Handled). h.connection) is)
 
 module _ (config : Config) (board : Board) (strays : List Stray) (accepted dialled : ℕ) (added : List Record) (left : RunRecord) (is_left : IsLeftBy board strays accepted added left.engine) (order : AreInOrder accepted dialled board.connections)
-    (laws : AccountLaws) (at : ℕ) (account : IsAccountedFor no_entries (first_machines config) at board) (ended : AllEndedWhole board) where
+    (laws : WholeLaws) (at : ℕ) (account : IsAccountedFor no_entries (first_machines config) at board) (ended : AllEndedWhole board) where
   abbrev pieces_at : ℕ → List CutPiece
   pieces_at k = (account.brought k).pieces
 

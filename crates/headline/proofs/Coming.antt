@@ -24,8 +24,9 @@ use Rattle.gate_io.specs.declared.wires.TheConstants.{FIRST_DIALLED}
 use Rattle.headline.proofs.Carrying.{StaysAside, each_step}
 use Rattle.headline.proofs.Steady.{Steady, steady_kept, steady_order}
 use Rattle.headline.proofs.Walk.{EngineKeeps, gathered, gathered_in_turn, quiet_door, quiet_step}
-use Rattle.headline.proofs.Walking.{WalkLaws, each_in_turn, walked}
+use Rattle.headline.proofs.Walking.{each_in_turn, walked}
 use Rattle.headline.specs.Numbering.{AreInOrder, CountsAsAnswered, IsInOrder, numbers_of}
+use Rattle.headline.specs.Needed.{WalkLaws}
 use Rattle.lease_desk.specs.Desk.{Gathers, InTurn}
 use Rattle.lease_desk.specs.declared.desk.LeaseDesk.{LeaseDesk}
 use Rattle.library_api.specs.Reads.{numbers_from}

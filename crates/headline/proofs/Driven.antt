@@ -7,8 +7,7 @@ use Rattle.engine_loop.specs.Turns.{at_wire}
 use Rattle.engine_loop.specs.declared.engine.Engine.{Engine}
 use Rattle.gate_io.specs.Wire.{Door, Link}
 use Rattle.headline.proofs.Coming.{AtWireInOrder, turn_made}
-use Rattle.headline.proofs.Walking.{WalkLaws, each_in_turn}
-use Rattle.headline.proofs.AccountLaws.{AccountLaws}
+use Rattle.headline.proofs.Walking.{each_in_turn}
 use Rattle.headline.proofs.Whole.{turn_whole}
 use Rattle.headline.specs.Ends.{AllEndedWhole, EndedWhole}
 use Rattle.headline.specs.Numbering.{AreInOrder, CountsAsAnswered}
@@ -20,6 +19,7 @@ use Rattle.library_desk.specs.declared.serving.LibTurn.{LibTurn}
 use Rattle.library_desk.specs.declared.shared.Shared.{Shared}
 use Rattle.engine_loop.specs.Starts.{StartsEngineOf}
 use Rattle.headline.specs.serving.Driven.{IsAccountedDrive}
+use Rattle.headline.specs.Needed.{AccountLaws, WalkLaws}
 use Rattle.serve_run.specs.Drives.{Drive, DrivesFor, DrivesOn, DrivesOnce}
 use Rattle.session_core.specs.State.{State}
 

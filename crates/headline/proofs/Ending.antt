@@ -6,12 +6,12 @@ use Rattle.engine_config.specs.declared.config.Config.{Config}
 use Rattle.engine_loop.specs.declared.engine.Engine.{Engine}
 use Rattle.headline.proofs.Carrying.{each_step}
 use Rattle.headline.proofs.Walking.{each_in_turn}
-use Rattle.headline.proofs.AccountLaws.{AccountLaws}
 use Rattle.headline.proofs.Whole.{turn_whole}
 use Rattle.headline.specs.Ends.{AllEndedWhole, EndedWhole}
 use Rattle.lease_core.specs.declared.entry.Entry.{Entry}
 use Rattle.library_desk.specs.declared.shared.Shared.{Shared}
 use Rattle.headline.specs.runs.Accounted.{IsAccountedRun}
+use Rattle.headline.specs.Needed.{AccountLaws}
 use Rattle.script_run.specs.Means.{StartsRun}
 use Rattle.script_run.specs.Runs.{CallsBetween, Carries, CarriesAt, CarriesOut, Meets}
 use Rattle.script_run.specs.declared.run.Run.{Run}

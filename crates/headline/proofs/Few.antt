@@ -15,7 +15,8 @@ use Rattle.gate_io.specs.declared.wires.Accepted.{Accepted}
 use Rattle.gate_io.specs.declared.wires.Accepted.TheVariants as accept
 use Rattle.headline.proofs.Steady.{Steady, steady_kept}
 use Rattle.headline.proofs.Walk.{EngineKeeps, quiet_door, quiet_step, waits_by}
-use Rattle.headline.proofs.Walking.{WalkLaws, each_in_turn, walked}
+use Rattle.headline.proofs.Walking.{each_in_turn, walked}
+use Rattle.headline.specs.Needed.{WalkLaws}
 use Rattle.lease_desk.specs.declared.desk.LeaseDesk.{LeaseDesk}
 use Rattle.library_desk.specs.Happening.{RunsFor}
 use Rattle.library_desk.specs.Serving.{Serves}

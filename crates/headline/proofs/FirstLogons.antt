@@ -22,9 +22,10 @@ use Rattle.gate_io.specs.declared.wires.Accepted.TheVariants as accept
 use Rattle.headline.proofs.FirstEntries.{LogonsFirst, dial_begins, end_kept, lapse_kept, message_kept, request_kept, shown_kept, tick_kept, timeout_kept}
 use Rattle.headline.proofs.Carrying.{each_step}
 use Rattle.headline.proofs.Walk.{IsKept, gathered, gathered_in_turn, quiet_step}
-use Rattle.headline.proofs.Walking.{WalkLaws, each_in_turn, walked}
+use Rattle.headline.proofs.Walking.{each_in_turn, walked}
 use Rattle.headline.specs.Dialled.{BeginsByLogon}
 use Rattle.headline.specs.LogonsFirst.{LogonsComeFirst, LogsOnFirst}
+use Rattle.headline.specs.Needed.{WalkLaws}
 use Rattle.lease_core.specs.Laws.{EntriesDecide, EntriesDecideOver}
 use Rattle.lease_core.specs.State.{State as Totals, series_of, state_of}
 use Rattle.lease_core.specs.declared.entry.Entry.{Entry}

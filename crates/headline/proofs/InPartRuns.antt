@@ -20,7 +20,7 @@ use Rattle.headline.proofs.InPartKinds.{AreNumberedSo, SameKinds, kinds_kept, or
 use Rattle.headline.proofs.InPartStops.{turn_stopped}
 use Rattle.headline.proofs.InPartTold.{AreTheSessions, headline_in_part}
 use Rattle.headline.proofs.Walk.{IsKept, gathered}
-use Rattle.headline.proofs.Walking.{WalkLaws, each_in_turn}
+use Rattle.headline.proofs.Walking.{each_in_turn}
 use Rattle.headline.specs.InPart.{HeadlineInPart}
 use Rattle.headline.specs.Numbering.{IsInOrder}
 use Rattle.lease_core.specs.declared.entry.Entry.{Entry}
@@ -44,6 +44,7 @@ use Rattle.script_run.specs.declared.run.Run.{Run}
 use Rattle.script_text.specs.declared.steps.Script.{Script}
 use Rattle.script_text.specs.declared.steps.Step.{Step}
 use Rattle.headline.specs.serving.Driven.{IsAccountedDrive}
+use Rattle.headline.specs.Needed.{WalkLaws}
 use Rattle.serve_run.specs.Drives.{Drive, DrivesFor, drive_of}
 use Rattle.serve_run.specs.Meetings.{Meeting, MeetsAt, meeting_of}
 use Rattle.serve_run.specs.Serves.{connections_of}

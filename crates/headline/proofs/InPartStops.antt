@@ -11,7 +11,8 @@ use Rattle.gate_io.specs.declared.wires.TheConstants.{FIRST_DIALLED}
 use Rattle.headline.proofs.Coming.{AtWireInOrder, all_dialled, half_taken, next_accepted}
 use Rattle.headline.proofs.InPartKinds.{AreNumberedSo, HaveNumbers, SameKinds, bound, kind_of, kinds_kept, numbers_stay, one_more, ordered, received, so_they_stay, ticked, untold}
 use Rattle.headline.proofs.Walk.{IsQuiet, all_published, all_read, all_served, all_ticked, bound_by, gathered, lapsing_quiet, one_quiet, reached, reads_walked, writes_walked}
-use Rattle.headline.proofs.Walking.{WalkLaws, each_in_turn}
+use Rattle.headline.proofs.Walking.{each_in_turn}
+use Rattle.headline.specs.Needed.{WalkLaws}
 use Rattle.lease_core.specs.State.{state_of}
 use Rattle.lease_desk.specs.Desk.{InTurn, TakesBackFrom, bodies_of}
 use Rattle.lease_desk.specs.declared.desk.LeaseDesk.{LeaseDesk}

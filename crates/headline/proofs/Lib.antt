@@ -5,7 +5,6 @@ mod Lists
 mod Causes
 mod Walking
 mod Carrying
-mod AccountLaws
 mod Walk
 mod Steady
 mod Coming

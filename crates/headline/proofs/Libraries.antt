@@ -17,7 +17,6 @@ use Rattle.headline.proofs.Lists.{past_end, there_is}
 use Rattle.headline.proofs.Within.{lies_in}
 use Rattle.headline.specs.Headline.{EachLibrary, EachSession, GivesBack, HasSession, IsLawfulRun, IsRepliedTo, IsReplyTold, IsSent, IsStray, IsTold, ReadsPrefixes, sends_of, sessions_of}
 use Rattle.headline.specs.Within.{IsWithinHolding}
-use Rattle.lease_core.specs.Laws.{LibraryDeedsAreTold}
 use Rattle.lease_core.specs.Lines.{IsShown, lines_of}
 use Rattle.lease_core.specs.declared.entry.Entry.{Entry}
 use Rattle.lease_core.specs.declared.entry.Why.TheVariants.{UnknownSession}
@@ -26,10 +25,8 @@ use Rattle.lease_core.specs.declared.messages.Notice.TheVariants as notices
 use Rattle.lease_words.specs.Views.{LibraryView}
 use Rattle.library_api.specs.Calls.{numbers_to, popped_of}
 use Rattle.library_api.specs.Known.{Known, new_library, reading_count}
-use Rattle.library_api.specs.Laws.{PollsPop}
 use Rattle.library_api.specs.Reads.{notices_of}
 use Rattle.library_api.specs.Replies.{replies_in}
-use Rattle.library_api.specs.Calls.{Call}
 use Rattle.library_api.specs.declared.event.Event.{Event}
 use Rattle.library_api.specs.declared.event.Event.TheVariants as events
 use Rattle.library_desk.specs.declared.desk.LibraryDesk.{LibraryDesk}
@@ -39,9 +36,10 @@ use Rattle.engine_laws.specs.libraries.Sends.{logged_bodies}
 use Rattle.engine_laws.specs.libraries.Spans.{LiesWithin}
 use Rattle.headline.specs.runs.Accounted.{LeavesAccounted, first_machines, no_entries}
 use Rattle.headline.specs.runs.Deeds.{deeds_in_lines, deeds_kept, words_kept}
-use Rattle.headline.specs.runs.Lives.{AreKept, HasLived, IsReportedAs, Life}
+use Rattle.headline.specs.runs.Lives.{HasLived, IsReportedAs, Life}
 use Rattle.headline.specs.runs.Reports.{AreFromGrant, GivesBack as GivesBackOn, HandsOn, IsBorneOut, IsGivenBack, IsReported, IsTold as IsToldOn, OnNotice, asks_kept, positions_kept, posts_kept}
 use Rattle.headline.specs.runs.Sides.{Begins}
+use Rattle.headline.specs.Needed.{LibraryLaws}
 use Rattle.run_report.specs.declared.calls.Call.{Call as Kept}
 use Rattle.run_report.specs.declared.calls.Call.TheVariants as calls
 use Rattle.run_report.specs.declared.records.LibReport.{LibReport}
@@ -111,12 +109,6 @@ among f (z ∷ zs) x y one (suc n, within, is) = Contains-append_right (f z) (fl
 no_lines : lines_of [] ≡ []
 unfolding state_of
 no_lines = refl
-
--- what the laws of libraries say
-pub record LibraryLaws : Type 0 where
-  pub pops : PollsPop
-  pub lines_tell : LibraryDeedsAreTold
-  pub handed : (k : Known) (made : List Call) (kept : List Kept) → AreKept IsReportedAs k made kept → All (HandsOn (Contains (notices_of k made))) kept
 
 -- what is reported of each library of a record is what it did, and is borne out
 abbrev pub AllReported : ℕ → Board → LibraryDesk → RunRecord → Type 0

@@ -16,7 +16,7 @@ use Rattle.engine_laws.specs.Account.{IsAccountedFor}
 use Rattle.fix_frame.specs.Cut.{Cut, CutPiece}
 use Rattle.fix_frame.specs.Frame.{frame_of}
 use Rattle.gate_io.specs.Wire.{Link}
-use Rattle.headline.proofs.Acts.{AccountLaws, bodies_are, handled_at, session_tells}
+use Rattle.headline.proofs.Acts.{bodies_are, handled_at, session_tells}
 use Rattle.headline.proofs.Found.{connection_found, session_found}
 use Rattle.headline.proofs.Lists.{middle_is, middle_within}
 use Rattle.headline.specs.Dialled.{BeginsByLogon, LogsOn, logon_frame}
@@ -33,6 +33,7 @@ use Rattle.resend_plan.specs.Wire.{behind_type, body_of, message, no_entry, time
 use Rattle.resend_plan.specs.declared.item.WireItem.TheVariants.{New}
 use Rattle.headline.specs.runs.Accounted.{AllTookAsAnswered, first_machines, no_entries}
 use Rattle.headline.specs.runs.Sides.{Begins}
+use Rattle.headline.specs.Needed.{WholeLaws}
 use Rattle.run_report.specs.declared.records.RunRecord.{RunRecord}
 use Rattle.session_book.specs.Runs.{Handled}
 use Rattle.session_book.specs.Spells.{Placed, Spell, items_at, spell_items, spells_behind}
@@ -104,7 +105,7 @@ pub record AreMachinesOf (config : Config) (board : Board) : Type 0 where
   pub dials : (s : ℕ) → s < length board.sessions → (book_at board s).machine.dials ≡ (first_machines config s).dials
 
 module _ (config : Config) (board : Board) (strays : List Stray) (accepted dialled : ℕ) (added : List Record) (left : RunRecord) (is_left : IsLeftBy board strays accepted added left.engine) (order : AreInOrder accepted dialled board.connections)
-    (laws : AccountLaws) (at : ℕ) (account : IsAccountedFor no_entries (first_machines config) at board) (ended : AllEndedWhole board)
+    (laws : WholeLaws) (at : ℕ) (account : IsAccountedFor no_entries (first_machines config) at board) (ended : AllEndedWhole board)
     (ready : IsReady no_entries board) (links : ℕ → Link) (so : DialledAreSo board) (answers : AllTookAsAnswered no_entries board links) (machines : AreMachinesOf config board) (firsts : LogonsComeFirst board) where
   abbrev handled_by : ℕ → List Handled
   handled_by s = handled_at config board strays accepted dialled added left is_left order laws at account ended s

@@ -6,31 +6,24 @@ use Rattle.engine_config.specs.declared.config.Config.{Config}
 use Rattle.engine_end.specs.Records.{HasLawfulJournal, SessionLeft}
 use Rattle.engine_loop.specs.declared.engine.Engine.{Engine}
 use Rattle.gate_io.specs.Wire.{Link}
-use Rattle.headline.proofs.Acts.{AccountLaws, cut_up}
+use Rattle.headline.proofs.Acts.{cut_up}
 use Rattle.headline.proofs.Bound.{bound_to_standing, bound_while_standing}
 use Rattle.headline.proofs.Found.{numbered, session_count, session_found}
 use Rattle.headline.proofs.Journals.{holdings_adjoin, lawful_runs, logs_told, one_owners}
-use Rattle.headline.proofs.Libraries.{AllReported, LibraryLaws, every_reply, every_send, prefix_reads, strays_are}
+use Rattle.headline.proofs.Libraries.{AllReported, every_reply, every_send, prefix_reads, strays_are}
 use Rattle.headline.proofs.Logons.{AreMachinesOf, acts_and_logons}
 use Rattle.headline.proofs.Texts.{took_its_text}
 use Rattle.headline.specs.Ends.{AllEndedWhole}
 use Rattle.headline.specs.Headline.{Headline}
 use Rattle.headline.specs.LogonsFirst.{LogonsComeFirst}
 use Rattle.headline.specs.Numbering.{AreInOrder}
-use Rattle.lease_core.specs.Laws.{HoldingsAdjoin as HoldingsOfRunsAdjoin, OneOwner}
 use Rattle.lease_words.specs.Views.{LibraryView}
 use Rattle.library_api.specs.Known.{reading_count}
 use Rattle.headline.specs.runs.Accounted.{LeavesAccounted, first_machines, no_entries}
+use Rattle.headline.specs.Needed.{HeadlineLaws}
 use Rattle.run_report.specs.declared.records.LibReport.{LibReport}
 use Rattle.run_report.specs.declared.records.RunRecord.{RunRecord}
 use Rattle.switchboard.specs.Board.{Board, book_at}
-
--- what the laws say of accounts, journals and libraries
-pub record HeadlineLaws : Type 0 where
-  pub accounts : AccountLaws
-  pub one_owner : OneOwner
-  pub holdings : HoldingsOfRunsAdjoin
-  pub libraries : LibraryLaws
 
 -- the sessions are the configured ones
 pub record AreConfiguredSessions (config : Config) (board : Board) : Type 0 where

@@ -12,7 +12,8 @@ use Rattle.engine_loop.specs.Turns.{AtWire, NotesSession, PublishesSession, Read
 use Rattle.engine_loop.specs.declared.engine.Engine.{Engine}
 use Rattle.fix_fields.specs.Reading.{fields_of}
 use Rattle.gate_io.specs.Wire.{Link}
-use Rattle.headline.proofs.Walking.{WalkLaws, each_in_turn, walked}
+use Rattle.headline.proofs.Walking.{each_in_turn, walked}
+use Rattle.headline.specs.Needed.{WalkLaws}
 use Rattle.lease_core.specs.State.{state_of}
 use Rattle.lease_desk.specs.Desk.{Gathers, InTurn, bodies_of}
 use Rattle.lease_desk.specs.declared.desk.LeaseDesk.{LeaseDesk}

@@ -24,9 +24,9 @@ use Rattle.gate_io.specs.declared.wires.Accepted.{Accepted}
 use Rattle.gate_io.specs.declared.wires.Accepted.TheVariants as accept
 use Rattle.gate_io.specs.declared.wires.WireGot.{WireGot}
 use Rattle.headline.proofs.Causes.{IsInnerErr, greeting_inner, message_inner}
-use Rattle.headline.proofs.AccountLaws.{AccountLaws, so_far}
-use Rattle.headline.proofs.Walking.{each_in_turn, turn_walked, walked}
+use Rattle.headline.proofs.Walking.{each_in_turn, so_far, turn_walked, walked}
 use Rattle.headline.specs.Ends.{AllEndedWhole, EndedWhole, HoldsNone, is_from_outside}
+use Rattle.headline.specs.Needed.{AccountLaws}
 use Rattle.lease_core.specs.State.{state_of}
 use Rattle.lease_core.specs.declared.entry.Entry.{Entry}
 use Rattle.lease_desk.specs.Desk.{Gathers, InTurn, bodies_of}

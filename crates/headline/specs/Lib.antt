@@ -11,6 +11,7 @@ pub mod Within
 pub mod Dialled
 pub mod LogonsFirst
 pub mod InPart
+pub mod Needed
 pub mod WrongInPart
 pub use Rattle.script_run.specs.Means
 pub use Rattle.serve_run.specs.Serves

@@ -9,14 +9,10 @@ ghost use Rattle.script_text.specs.declared.steps.Script.{Script};
 ghost use Rattle.headline.specs.serving.Served.{AnyReadings};
 ghost use Rattle.serve_run.specs.Serves.{Serves};
 
+use crate::laws::accounts_are_kept;
 use crate::runs::engines_are_accounted_for;
 use crate::serving::served_scripts_are_accounted_for;
-use engine_laws::laws::{
-    accounts_are_whole, happenings_are_accounted_for, sessions_are_accounted_for,
-    steps_are_accounted_for,
-};
-use engine_laws::walks::turns_are_walks;
-use library_desk::laws::serving_happens;
+use engine_laws::laws::accounts_are_whole;
 
 /// Whatever script is served, a connection of its record ended since nothing came only where the clock had gone on for as long as
 /// that is waited for, and a lease was taken back for its library's silence only where it had gone on for as long as a library may
@@ -25,12 +21,8 @@ pub fn silences_are_waited_for()
     ensures { (script : Script) (turns : ℕ) (wide : Bool) (old new : Door) (old_links new_links : ℕ → Link) (left : RunRecord) (spent : Option ℕ)
         (serves : Serves script turns wide AnyReadings old new old_links new_links left spent) → KeepsTime script.config serves.reading serves.drives.last.readings left }
 {
-    turns_are_walks();
+    accounts_are_kept();
     accounts_are_whole();
-    happenings_are_accounted_for();
-    sessions_are_accounted_for();
-    steps_are_accounted_for();
-    serving_happens();
     engines_are_accounted_for();
     served_scripts_are_accounted_for();
 }

@@ -1,4 +1,5 @@
-//! Laws of the definitions. Each is the contract of a function that does nothing.
+//! Laws of the headline: it holds of every record that a run leaves, and refutes wrong ones. Each is the
+//! contract of a function that does nothing.
 
 ghost use Rattle.std.specs.Prelude.{◌≡◌, ℕ, Bool, List, Option, None};
 ghost use Rattle.std.specs.List.{All};
@@ -14,6 +15,7 @@ ghost use Rattle.headline.specs.Finished.{IsFinished};
 ghost use Rattle.headline.specs.Headline.{Headline};
 ghost use Rattle.headline.specs.InPart.{HeadlineInPart};
 ghost use Rattle.headline.specs.LogonsFirst.{LogonsComeFirst};
+ghost use Rattle.headline.specs.Needed.{AccountLaws, HeadlineLaws};
 ghost use Rattle.headline.specs.Numbering.{AreInOrder, IsInOrder};
 ghost use Rattle.headline.specs.Wrong.{AnswersUnbound, BeatsBeforeItsLogon, BindsNone, BindsOneTwice, BindsTwoAtOnce, CountsWhatNeverCame, GivesBackByItself, GivesBackWhatRuns, HasTwoOwners, IsRefuted, IsRepliedToTwice, LogsNoArrival, LogsNoNumber, LosesByNoWord, ReadsElsewhere, SendsByAnotherLease, ReadsPastEnd, SendsBeforeItsLogon, SendsForAnother, ShareOneConnection, SkipsNumbers, StandsWhereItWasLeft, StraysAtHome, TakesBackFromNobody, TakesMoreThanItsLogon, WritesWhatIsNotTold};
 ghost use Rattle.headline.specs.WrongInPart.{BindsNoConnection, HasOtherNames, IsRefutedInPart, MissesSession, StopsTwice, TellsWhatNeverCame};
@@ -69,6 +71,18 @@ pub fn connections_are_numbered()
     serving_happens();
 }
 
+/// Over each happening, each of a session's doings and each step of a turn a board stays accounted for, and a turn is made of
+/// those: what laws of this module and of `clock` need of the crates below.
+pub(crate) fn accounts_are_kept()
+    ensures { AccountLaws }
+{
+    turns_are_walks();
+    happenings_are_accounted_for();
+    sessions_are_accounted_for();
+    steps_are_accounted_for();
+    serving_happens();
+}
+
 /// Of a connection that ended from outside, by the wire, by the clock or since it took too little, each whole piece
 /// of what came on it was handed out before: as a run begins, behind each step of its script, and as each
 /// session is gathered at its end.
@@ -80,11 +94,7 @@ pub fn connections_end_whole()
         → AllEndedWhole old.engine.sessions.desk.board → AllEndedWhole new.engine.sessions.desk.board }
     ensures gathers { (at until : ℕ) (old new : LeaseDesk) → GathersAll at until old new → AllEndedWhole old.board → AllEndedWhole new.board }
 {
-    turns_are_walks();
-    serving_happens();
-    happenings_are_accounted_for();
-    sessions_are_accounted_for();
-    steps_are_accounted_for();
+    accounts_are_kept();
     runs_are_accounted_for();
 }
 
@@ -106,6 +116,19 @@ pub fn logons_come_first()
     serving_happens();
 }
 
+/// An account tells whole of each connection, lawful journals of their owners and holdings, and what is kept of calls of what
+/// libraries did: what the headline needs of other laws, of whichever record.
+fn accounts_and_calls_are_told()
+    ensures { HeadlineLaws }
+{
+    accounts_are_whole();
+    holdings_adjoin();
+    one_owner_at_a_time();
+    lines_tell_deeds();
+    replies_close_requests();
+    kept_calls_tell();
+}
+
 /// The headline holds of each record that serving a script leaves, however the threads came between one another, where its journals are those
 /// of registries and nothing had come at the wire before; and the wire tells of the connections what it does then.
 pub fn served_headlines_hold()
@@ -116,21 +139,9 @@ pub fn served_headlines_hold()
     ensures finished { (script : Script) (turns : ℕ) (wide : Bool) (old new : Door) (old_links new_links : ℕ → Link) (left : RunRecord)
         → Serves script turns wide AnyReadings old new old_links new_links left None → old.accepted ≡ 0 → old.dialled ≡ 0 → IsFinished script.config.connections script.config.dials left }
 {
-    turns_are_walks();
-    connections_are_numbered();
-    connections_end_whole();
+    accounts_are_kept();
     logons_come_first();
-    boards_go_on();
-    accounts_are_whole();
-    happenings_are_accounted_for();
-    sessions_are_accounted_for();
-    steps_are_accounted_for();
-    serving_happens();
-    holdings_adjoin();
-    one_owner_at_a_time();
-    lines_tell_deeds();
-    replies_close_requests();
-    kept_calls_tell();
+    accounts_and_calls_are_told();
     engines_are_accounted_for();
     texts_are_taken();
     drives_are_accounted_for();
@@ -146,20 +157,12 @@ pub fn headlines_hold()
     connections_are_numbered();
     connections_end_whole();
     logons_come_first();
-    accounts_are_whole();
-    happenings_are_accounted_for();
-    sessions_are_accounted_for();
-    holdings_adjoin();
-    one_owner_at_a_time();
-    lines_tell_deeds();
-    replies_close_requests();
-    kept_calls_tell();
+    accounts_and_calls_are_told();
     libraries_live();
     runs_are_accounted_for();
     runs_go_on();
     scripts_are_accounted_for();
     boards_go_on();
-    texts_are_taken();
 }
 
 /// The headline pins records down without the meaning of a script: each of these families of wrong records is refuted.

@@ -27,6 +27,7 @@ ghost use Rattle.library_desk.specs.declared.shared.Shared.{Shared};
 ghost use Rattle.engine_laws.specs.libraries.Replies.{AreAnswered};
 ghost use Rattle.ring_links.specs.Ends.{HeadView, TailView};
 ghost use Rattle.ring_links.specs.declared.queue.Full.{Full};
+ghost use Rattle.headline.specs.Needed.{ApiLaws, GoingLaws, RunLaws};
 ghost use Rattle.headline.specs.runs.Accounted.{AreNumbered, FitsTable, IsAccountedAt, IsAccountedRun, LeavesAccounted, RunLeavesAccounted, first_machines, no_entries};
 ghost use Rattle.headline.specs.runs.Lives.{AreKept, AreUnused, DesksMeet, HasLived, HaveLived, IsInVain, IsLifeAt, IsReportedAs, IsServedAt, Life, SeatStays};
 ghost use Rattle.headline.specs.runs.Records.{AllAreReplied, IsAccountedRecord};
@@ -61,6 +62,17 @@ use library_api::{
 use library_desk::laws::serving_happens;
 use switchboard::laws::{boards_go_on, boards_stay_ready};
 
+/// A turn is made of its steps, boards go on over whatever happens, and serving a library is happenings: what the laws of
+/// runs need of the crates below.
+fn turns_and_boards_go_on()
+    ensures { GoingLaws }
+{
+    turns_are_walks();
+    boards_go_on();
+    boards_stay_ready();
+    serving_happens();
+}
+
 /// Over a turn, each step of a script and all of them sessions and connections go on, what was pushed to a library
 /// and what was popped from it stays, the engine's seat stays at its table, and there are as many libraries.
 pub fn runs_go_on()
@@ -70,10 +82,7 @@ pub fn runs_go_on()
     ensures carries { (step : Step) (old new : Run) → Carries step old new → RunGoesOn old new }
     ensures carries_out { (steps : List Step) (count : ℕ) (old new : Run) → CarriesOut steps count old new → RunGoesOn old new }
 {
-    turns_are_walks();
-    boards_go_on();
-    boards_stay_ready();
-    serving_happens();
+    turns_and_boards_go_on();
 }
 
 /// An engine is accounted for as it begins, behind each turn and each meeting with a library, and in what it leaves
@@ -89,10 +98,7 @@ pub fn engines_are_accounted_for()
         → Finishes seats engine.lines.unkept.items engine.accepted engine.moment (until_of engine) engine.sessions left.engine → left.libraries ≡ reports → IsAccountedAt before start engine.moment engine.sessions
         → TookTheirTexts engine.sessions.desk.board links → All (FitsTable engine.sessions.desk.seat.table.shape.libraries) seats → LeavesAccounted before start engine links seats reports left }
 {
-    turns_are_walks();
-    boards_go_on();
-    boards_stay_ready();
-    serving_happens();
+    turns_and_boards_go_on();
     happenings_are_accounted_for();
     sessions_are_accounted_for();
     starts_are_accounted_for();
@@ -105,6 +111,15 @@ pub fn engines_are_accounted_for()
     sends_are_taken();
 }
 
+/// An engine stays accounted for, and its connections' texts are taken, over whatever a run does with it.
+fn engines_and_texts_go_on()
+    ensures { (before : ℕ → List Entry) (start : ℕ → State) → RunLaws before start }
+{
+    turns_and_boards_go_on();
+    texts_are_taken();
+    engines_are_accounted_for();
+}
+
 /// A run is accounted for as it begins, behind each step of its script, and in what it leaves.
 pub fn runs_are_accounted_for()
     // As it begins no session has an entry, and the session machines are the configured ones.
@@ -115,12 +130,9 @@ pub fn runs_are_accounted_for()
     // What the run leaves is accounted for.
     ensures leaves { (before : ℕ → List Entry) (start : ℕ → State) (run : Run) (left : RunRecord) → Leaves run left → IsAccountedRun before start run → RunLeavesAccounted before start run left }
 {
-    turns_are_walks();
-    boards_go_on();
-    boards_stay_ready();
-    serving_happens();
     texts_are_taken();
     engines_are_accounted_for();
+    engines_and_texts_go_on();
 }
 
 /// What a library did goes on from call to call, whoever makes them: it begins with ends at which nothing was done; each call is
@@ -150,13 +162,8 @@ pub fn libraries_live()
     ensures carries_out { (before : ℕ → List Entry) (start : ℕ → State) (requests : ℕ) (steps : List Step) (count : ℕ) (old new : Run) → CarriesOut steps count old new → IsAccountedRun before start old
         → HaveLived requests old → HaveLived requests new }
 {
-    turns_are_walks();
     requests_are_numbered();
-    boards_go_on();
-    boards_stay_ready();
-    serving_happens();
-    texts_are_taken();
-    engines_are_accounted_for();
+    engines_and_texts_go_on();
 }
 
 /// What is kept of a library's calls says what the library did.
@@ -167,17 +174,25 @@ pub fn kept_calls_tell()
     ensures notices { (k : Known) (made : List Call) (kept : List Kept) → AreKept IsReportedAs k made kept → All (HandsOn (Contains (notices_of k made))) kept }
 {}
 
-/// What is reported of a library as a run ends is borne out by the sessions' journals and logs.
-pub fn reports_are_borne_out()
-    ensures { (before : ℕ → List Entry) (start : ℕ → State) (requests : ℕ) (engine : Engine) (links : ℕ → Link) (seats : List LibraryView) (reports : List LibReport) (left : RunRecord)
-        (leaves : LeavesAccounted before start engine links seats reports left) (place : ℕ) (life : Life) → IsLifeAt requests engine.sessions place life → (report : LibReport) → Contains seats life.library.ends.seat
-        → report.number ≡ life.number → report.calls ≡ life.calls → IsReported requests before leaves.gathered.board engine.sessions place report }
+/// A library's polls, requests, sends and reads are borne out by what it knows: what the two laws behind this one need of
+/// `library_api`.
+fn calls_are_answered()
+    ensures { ApiLaws }
 {
     requests_are_numbered();
     deeds_are_answered();
     posts_are_sent();
     replies_close_requests();
     reads_have_no_gap();
+}
+
+/// What is reported of a library as a run ends is borne out by the sessions' journals and logs.
+pub fn reports_are_borne_out()
+    ensures { (before : ℕ → List Entry) (start : ℕ → State) (requests : ℕ) (engine : Engine) (links : ℕ → Link) (seats : List LibraryView) (reports : List LibReport) (left : RunRecord)
+        (leaves : LeavesAccounted before start engine links seats reports left) (place : ℕ) (life : Life) → IsLifeAt requests engine.sessions place life → (report : LibReport) → Contains seats life.library.ends.seat
+        → report.number ≡ life.number → report.calls ≡ life.calls → IsReported requests before leaves.gathered.board engine.sessions place report }
+{
+    calls_are_answered();
 }
 
 /// What the record of a script has of its sessions and libraries is accounted for: what it reports of each library
@@ -191,11 +206,7 @@ pub fn scripts_are_accounted_for()
         → AllAreReplied before leaves.gathered.board run }
     ensures means { (script : Script) (left : RunRecord) → Means script left → IsAccountedRecord script left }
 {
-    requests_are_numbered();
-    deeds_are_answered();
-    posts_are_sent();
-    replies_close_requests();
-    reads_have_no_gap();
+    calls_are_answered();
     boards_go_on();
     runs_go_on();
     runs_are_accounted_for();

@@ -30,8 +30,9 @@ use Rattle.library_desk.specs.declared.ends.EngineEnds.{EngineEnds}
 use Rattle.library_desk.specs.declared.serving.LibTurn.{LibTurn}
 use Rattle.library_desk.specs.declared.serving.LibTurn.TheVariants.{Answered, Ended, NoCommand, NoRoom}
 use Rattle.engine_laws.specs.libraries.Feeds.{AreFed, IsFed, IsLogged, IsPumpedFrom, leases_at, next_over}
+use Rattle.engine_laws.specs.libraries.Going.{GoingLaws}
 use Rattle.engine_laws.proofs.library_lemmas.Ends.{ends_change}
-use Rattle.engine_laws.proofs.library_lemmas.Going.{Keeps, Laws, by_going, keeps_further, keeps_itself, one_keeps, taking_back_keeps}
+use Rattle.engine_laws.proofs.library_lemmas.Going.{Keeps, by_going, keeps_further, keeps_itself, one_keeps, taking_back_keeps}
 use Rattle.engine_laws.proofs.library_lemmas.Orders.{aside_next, aside_order, is_of_other, is_of_own, messages_aside, messages_logged, messages_order, next_append, order_append, own_next, own_order}
 use Rattle.engine_laws.proofs.Walking.{each_in_turn, small_in_turn}
 use Rattle.ring_links.specs.Ends.{HeadView, TailView}
@@ -175,7 +176,7 @@ module _ (s library lease from : ℕ) (old new : Board) (cursors more : List Cur
         ];
       }
 
-module _ (l : Laws) (lease_told : LinesTellLease) (pushed_last : PushedIsLast) where
+module _ (l : GoingLaws) (lease_told : LinesTellLease) (pushed_last : PushedIsLast) where
   -- a refused request leaves the sessions with whom they were
   refused_keeps : (library nr s from : ℕ) (why : Why) (old new : LibraryDesk) (notice : Notice) (is : Replies library nr s from old new notice) → is.reply ≡ reply.Refused why → Keeps old.desk.board new.desk.board
   refused_keeps library nr s from why old new notice is refused =
@@ -412,7 +413,7 @@ pumped_to library s count old new from_one small is was counted = elim is [
   | inr same ↦ (subst AreFed (sym same.1) was, ap (λ (d : LibraryDesk). length d.desk.board.sessions) same.1 ∙ counted)
 ]
 
-module _ (l : Laws) (lease_told : LinesTellLease) (pushed_last : PushedIsLast) where
+module _ (l : GoingLaws) (lease_told : LinesTellLease) (pushed_last : PushedIsLast) where
   replied_fed : (library nr s from : ℕ) (old new : LibraryDesk) (notice : Notice) (r : Reply) → 1 ≤ library → s < length old.desk.board.sessions → (is : Replies library nr s from old new notice) → is.reply ≡ r → AreFed old → RepliedFed library old new notice
   replied_fed library nr s from old new notice (reply.Granted lease start) from_one small is granted was =
       let grants = grant_of l lease_told pushed_last library nr s from lease start old new notice is granted small was.cursors in

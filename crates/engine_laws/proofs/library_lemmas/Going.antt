@@ -1,11 +1,11 @@
 -- Boards that go on as a library that has a session relies on.
-use Rattle.std.proofs.Common.{◌≡◌, ◌≢◌, inl, inr, ℕ, zero, suc, ◌<◌, ◌≤◌, Bool, true, false, List, [], ◌∷◌, ◌++◌, length, Option, Some, refl, sym, ap, subst, ◌∙◌, arith}
+use Rattle.std.proofs.Common.{◌≡◌, ◌≢◌, inl, inr, ℕ, zero, suc, ◌<◌, ◌≤◌, Bool, true, false, List, [], ◌∷◌, ◌++◌, length, Some, refl, sym, ap, subst, ◌∙◌, arith}
 use Rattle.std.proofs.lemmas.Bool.{cases_eq}
 use Rattle.std.proofs.lemmas.List.{length_push}
 use Rattle.std.proofs.lemmas.List.Elements.{All-head, All-tail}
 use Rattle.std.specs.List.{All}
 use Rattle.std.specs.Prelude.{fold, if◌then◌else◌, slice_get}
-use Rattle.lease_core.specs.Laws.{LinesAreHeld, LinesAreRaised, LinesGoOn, LinesGoOnOver, LinesTellOwner}
+use Rattle.lease_core.specs.Laws.{KeepsLease}
 use Rattle.lease_core.specs.Lines.{ending_by, entries_after_hold, entries_after_timeout, entries_after_word, granted_line, last_line, line_with_ending, line_with_send, lines_after, lines_of, no_line, raised, raised_line, raises}
 use Rattle.lease_core.specs.Showable.{owner_by}
 use Rattle.lease_core.specs.State.{last_or, owner_in, owner_of, state_of, with_last}
@@ -18,17 +18,14 @@ use Rattle.lease_core.specs.declared.lease.Line.{Line}
 use Rattle.lease_core.specs.declared.word.Standing.{Standing}
 use Rattle.lease_core.specs.declared.word.Standing.TheVariants.{Active, Released, Revoked}
 use Rattle.lease_core.specs.declared.word.Word.{Word}
-use Rattle.lease_desk.specs.Desk.{Gathers, GoesOn, TakesBack, bodies_of, is_of_leases, owner_at}
+use Rattle.lease_desk.specs.Desk.{Gathers, TakesBack, bodies_of, is_of_leases, owner_at}
 use Rattle.lease_desk.specs.declared.desk.LeaseDesk.{LeaseDesk}
 use Rattle.engine_laws.specs.libraries.Feeds.{leases_at}
+use Rattle.engine_laws.specs.libraries.Going.{GoingLaws}
 use Rattle.session_book.specs.Book.{Book, Desk}
-use Rattle.switchboard.specs.Board.{Board, DeskChanges, book_at, session_at, with_session}
+use Rattle.switchboard.specs.Board.{Board, book_at}
 use Rattle.switchboard.specs.Going.{GoesOnTo}
 use Rattle.switchboard.specs.Happenings.{Happening, Happens, Reaches, reserves, shows, times_out}
-
--- a library that has a session had it before, by the same lease
-abbrev pub KeepsLease : List Line → List Line → Type 0
-KeepsLease old new = 0 < owner_by new → (owner_by new ≡ owner_by old) × (length new ≡ length old)
 
 -- As many sessions go on, each by no new lease, none loses a lease that it gave or a message of its log.
 pub record Keeps (old new : Board) : Type 0 where
@@ -81,44 +78,10 @@ lines_stay : (more : List Entry) (lines : List Line) → length lines ≤ length
 lines_stay [] lines = omega arith
 lines_stay (e ∷ more) lines = (let one = line_stays lines e in let rest = lines_stay more (lines_after lines e) in omega arith)
 
--- what the crates below say
-pub record Laws : Type 0 where
-  pub tell : LinesTellOwner
-  pub over : LinesGoOnOver
-  pub one : LinesGoOn
-  pub raises : LinesAreRaised
-  pub holds : LinesAreHeld
-  pub goes_on : (happening : Happening) (old new : Board) → is_of_leases happening ≡ false → Happens happening old new → (s : ℕ) → GoesOn old new s
-  pub happens : (happening : Happening) (old new : Board) → Happens happening old new → GoesOnTo old new
-  pub runs : (happenings : List Happening) (old new : Board) → Reaches happenings old new → GoesOnTo old new
-  pub desk : (s other : ℕ) (place : Option ℕ) (old new : Board) → other ≢ s → DeskChanges s place old new → book_at new other ≡ book_at old other
-  pub session : (s other : ℕ) (old new : Board) → other ≢ s → new ≡ with_session s (session_at new s) old → book_at new other ≡ book_at old other
-
 pub last_with_last : (f : Line → Line) (d : Line) (lines : List Line) → 0 < length lines → last_or d (with_last f lines) ≡ f (last_or d lines)
 last_with_last f d [] some = absurd (omega arith)
 last_with_last f d (l ∷ []) some = refl
 last_with_last f d (l ∷ k ∷ ks) some = last_with_last f l (k ∷ ks) (omega arith)
-
-still_owned : (standing : Standing) (owner library : ℕ) (ending : Ending) → 0 < owner_in (ending_by standing owner library ending) library → owner_in (ending_by standing owner library ending) library ≡ owner_in ending library
-still_owned Active owner library ending some = refl
-still_owned Revoked owner library ending some = refl
-still_owned Released owner library ending some = absurd (omega arith)
-
-last_raised : (w : Word) (lines : List Line) → KeepsLease lines (with_last (raised_line w) lines)
-last_raised w [] some = (refl, refl)
-last_raised w (l ∷ ls) some =
-    let lines = l ∷ ls in
-    let last : last_line (with_last (raised_line w) lines) ≡ raised_line w (last_line lines) = last_with_last (raised_line w) no_line lines (omega arith) in
-    let owner : owner_by (with_last (raised_line w) lines) ≡ owner_in (raised_line w (last_line lines)).ending (last_line lines).library = ap (λ (x : Line). owner_in x.ending x.library) last in
-    (owner ∙ still_owned w.standing w.owner (last_line lines).library (last_line lines).ending (subst (λ n. 0 < n) owner some), long_with_last (raised_line w) lines)
-
-chosen : (b : Bool) (w : Word) (lines : List Line) → KeepsLease lines (if b then with_last (raised_line w) lines else lines)
-chosen true w lines some = last_raised w lines some
-chosen false w lines some = (refl, refl)
-
-raised_keeps : (w : Word) (lines : List Line) → KeepsLease lines (raised lines w)
-unfolding raised
-raised_keeps w lines = chosen (raises lines w) w lines
 
 -- nobody has a session whose last lease was taken back
 taken_owner : (lines : List Line) → 0 < owner_by (with_last (line_with_ending TakenBack) lines) → ⊥
@@ -127,7 +90,7 @@ taken_owner (l ∷ ls) some =
     let none : owner_by (with_last (line_with_ending TakenBack) (l ∷ ls)) ≡ 0 = ap (λ (x : Line). owner_in x.ending x.library) (last_with_last (line_with_ending TakenBack) no_line (l ∷ ls) (omega arith)) in
     omega arith
 
-module _ (l : Laws) where
+module _ (l : GoingLaws) where
   -- what follows from how sessions go on, beside who has them
   pub by_going : (old new : Board) → GoesOnTo old new → ((s : ℕ) → 0 < owner_at new s → (owner_at new s ≡ owner_at old s) × (leases_at new s ≡ leases_at old s)) → Keeps old new
   by_going old new goes owner = record {
@@ -167,7 +130,7 @@ module _ (l : Laws) where
   word_keeps : (entries : List Entry) (w : Word) (until : ℕ) → KeepsLease (lines_of entries) (lines_of (entries_after_hold until (entries_after_word entries w)))
   word_keeps entries w until =
       let lines : lines_of (entries_after_hold until (entries_after_word entries w)) ≡ raised (lines_of entries) w = l.holds (entries_after_word entries w) until ∙ l.raises entries w in
-      subst (KeepsLease (lines_of entries)) (sym lines) (raised_keeps w (lines_of entries))
+      subst (KeepsLease (lines_of entries)) (sym lines) (l.kept (lines_of entries) w)
 
   timeout_keeps : (standing : Standing) (before : List Line) (entries : List Entry) → KeepsLease before (lines_of entries) → KeepsLease before (lines_of (entries_after_timeout standing entries))
   timeout_keeps Active before entries keeps some = absurd (taken_owner (lines_of entries) (subst (λ (ls : List Line). 0 < owner_by ls) (l.one entries (timeout_entry (state_of entries))) some))

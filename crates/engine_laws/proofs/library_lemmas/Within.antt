@@ -24,10 +24,11 @@ use Rattle.library_desk.specs.declared.ends.EngineEnds.{EngineEnds}
 use Rattle.library_desk.specs.declared.serving.LibTurn.{LibTurn}
 use Rattle.library_desk.specs.declared.serving.LibTurn.TheVariants.{Answered, Ended, NoCommand, NoRoom}
 use Rattle.engine_laws.specs.libraries.Feeds.{AreFed, leases_at}
+use Rattle.engine_laws.specs.libraries.Going.{GoingLaws}
 use Rattle.engine_laws.specs.libraries.Spans.{AllLieWithin, IsBelowEnd, LiesWithin}
 use Rattle.engine_laws.proofs.library_lemmas.Ends.{ends_change}
 use Rattle.engine_laws.proofs.library_lemmas.Fed as fed
-use Rattle.engine_laws.proofs.library_lemmas.Going.{Keeps, Laws as GoingLaws, gathering_keeps, keeps_further, keeps_itself, run_keeps, taking_back_keeps}
+use Rattle.engine_laws.proofs.library_lemmas.Going.{Keeps, gathering_keeps, keeps_further, keeps_itself, run_keeps, taking_back_keeps}
 use Rattle.engine_laws.proofs.library_lemmas.Holdings.{JournalLaws, below_further, owned_below}
 use Rattle.engine_laws.proofs.Walking.{each_in_turn, small_in_turn}
 use Rattle.engine_laws.proofs.library_lemmas.Steps.{IsKept}

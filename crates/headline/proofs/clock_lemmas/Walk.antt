@@ -9,8 +9,7 @@ use Rattle.std.specs.Prelude.{IsNone, if◌then◌else◌, nat_lt}
 use Rattle.std.specs.Result.{result_ok}
 use Rattle.headline.proofs.clock_lemmas.Books.{IsSameButSent, binding_same}
 use Rattle.headline.proofs.clock_lemmas.Causes.{IsInnerErr, greeting_inner, is_silent, message_inner}
-use Rattle.headline.proofs.AccountLaws.{AccountLaws, so_far}
-use Rattle.headline.proofs.Walking.{each_in_turn, turn_walked, walked}
+use Rattle.headline.proofs.Walking.{each_in_turn, so_far, turn_walked, walked}
 use Rattle.headline.proofs.clock_lemmas.Libraries.{AreWatched, IsWatchedAlike, desk_alike, same_alike, served_in_time, served_watched, watched_alike}
 use Rattle.headline.proofs.clock_lemmas.Lines as lines
 use Rattle.headline.proofs.clock_lemmas.Lines.{AreInTime, GoesOnInTime, IsCalm, IsInTime, MayEnd, later_all}
@@ -19,6 +18,7 @@ use Rattle.headline.proofs.clock_lemmas.Opened.{AreOpened, BindsNone, GoesOnOpen
 use Rattle.headline.proofs.clock_lemmas.Phases.{HasHeard, binds_on, tick_ends, wait_in}
 use Rattle.headline.proofs.clock_lemmas.Waits as waiting
 use Rattle.headline.specs.clock.Waited.{HasWaited, messages_of, wait_by}
+use Rattle.headline.specs.Needed.{AccountLaws}
 use Rattle.connection_core.specs.Connection.{ConnectionState, IsGiven}
 use Rattle.connection_core.specs.Outgoing.{waiting_count}
 use Rattle.connection_core.specs.declared.limits.TheConstants.{LOGON_WAIT, MOST_WAITING}

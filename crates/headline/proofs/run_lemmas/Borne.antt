@@ -22,7 +22,7 @@ use Rattle.lease_words.specs.declared.item.Item.{Item}
 use Rattle.lease_words.specs.declared.view.LibrarySession.{LibrarySession}
 use Rattle.library_api.specs.Calls.{Call, after_call, deeds_by, deeds_of, did_give, popped_of}
 use Rattle.library_api.specs.Known.{Known, held, lease_in, new_library, no_reading, reading_at, reading_count, session_at}
-use Rattle.library_api.specs.Laws.{BeginningsAreInOrder, DeedsAreAnswered, PollsCloseRequests, PollsPop, PostsAreSent, ReadsHaveNoGap, RepliesCloseRequests, RequestsAreNumbered}
+use Rattle.library_api.specs.Laws.{BeginningsAreInOrder, DeedsAreAnswered, PollsPop, PostsAreSent, ReadsHaveNoGap, RepliesCloseRequests}
 use Rattle.library_api.specs.Posts.{posts_by, posts_of}
 use Rattle.library_api.specs.Reads.{AreInOrder, granted_from, numbers_from, reads_of}
 use Rattle.library_api.specs.Replies.{AreReplies, HoldsThroughout, IsRepliedTo, replies_in}
@@ -48,6 +48,7 @@ use Rattle.headline.proofs.run_lemmas.Lived.{none_there, requests_numbered}
 use Rattle.headline.proofs.run_lemmas.Numbers.{numbers_asked}
 use Rattle.headline.proofs.run_lemmas.Open.{at_most_one_open}
 use Rattle.headline.proofs.run_lemmas.Told.{calls_given, positions_told, posts_told}
+use Rattle.headline.specs.Needed.{ApiLaws}
 use Rattle.run_report.specs.declared.calls.Call.{Call as Kept}
 use Rattle.run_report.specs.declared.calls.Call.TheVariants as calls
 use Rattle.run_report.specs.declared.records.LibReport.{LibReport}
@@ -224,17 +225,6 @@ lived_weaker requests life was = record {
   rising = was.rising;
   words = was.words;
 }
-
--- what the laws of libraries say
-pub record ApiLaws : Type 0 where
-  pub polls_pop : PollsPop
-  pub polls_close : PollsCloseRequests
-  pub closed : RepliesCloseRequests
-  pub deeds_are_answered : DeedsAreAnswered
-  pub posts_are_sent : PostsAreSent
-  pub no_gap : ReadsHaveNoGap
-  pub beginnings : BeginningsAreInOrder
-  pub numbered : RequestsAreNumbered
 
 module _ (laws : ApiLaws) (before : ℕ → List Entry) (start : ℕ → State) (requests : ℕ) (engine : Engine) (links : ℕ → Link) (seats : List LibraryView) (reports : List LibReport) (left : RunRecord)
     (leaves : LeavesAccounted before start engine links seats reports left) (place : ℕ) (life : Life) (one : IsLifeAt requests engine.sessions place life) where

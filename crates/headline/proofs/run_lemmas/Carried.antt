@@ -4,29 +4,21 @@ use Rattle.std.proofs.lemmas.List.{length-set}
 use Rattle.std.proofs.lemmas.List.Elements.{All-cons, All-nil}
 use Rattle.std.specs.List.{All}
 use Rattle.std.specs.Prelude.{map, slice_get}
-use Rattle.engine_end.specs.Finishing.{Finishes}
-use Rattle.engine_loop.specs.Engines.{IsAtWork, IsOnline, until_of}
-use Rattle.engine_loop.specs.Turns.{AtWire, MakesTurn}
 use Rattle.engine_loop.specs.declared.engine.Engine.{Engine}
-use Rattle.engine_loop.specs.declared.records.Turn.{Turn}
 use Rattle.gate_io.specs.MemWire.{WireState, link_at}
-use Rattle.gate_io.specs.Wire.{Link, LinkGoesOn}
+use Rattle.gate_io.specs.Wire.{LinkGoesOn}
 use Rattle.lease_core.specs.declared.entry.Entry.{Entry}
 use Rattle.lease_words.specs.Views.{EngineView, LibraryView}
-use Rattle.library_api.specs.Ends.{EndsView}
-use Rattle.library_desk.specs.declared.desk.LibraryDesk.{LibraryDesk}
-use Rattle.headline.specs.runs.Lives.{DesksMeet}
-use Rattle.library_desk.specs.declared.shared.Shared.{Shared}
-use Rattle.headline.specs.runs.Accounted.{AreNumbered, FitsTable, IsAccountedAt, IsAccountedRun, IsNumbered, LeavesAccounted, RunLeavesAccounted}
+use Rattle.headline.specs.runs.Accounted.{AreNumbered, FitsTable, IsAccountedAt, IsAccountedRun, IsNumbered, RunLeavesAccounted}
 use Rattle.script_run.specs.declared.callers.Caller.{Caller}
 use Rattle.script_run.specs.declared.run.Run.{Run}
 use Rattle.headline.proofs.run_lemmas.Calls.{call_made}
 use Rattle.headline.proofs.run_lemmas.Wires.{comes_on, room_on, same_on}
 use Rattle.headline.proofs.run_lemmas.Places.{each_behind}
-use Rattle.headline.proofs.run_lemmas.GoingOn.{GoingLaws, made_turn}
+use Rattle.headline.proofs.run_lemmas.GoingOn.{made_turn}
 use Rattle.headline.proofs.Carrying.{StaysAside, each_step}
 use Rattle.headline.proofs.Walking.{each_in_turn}
-use Rattle.run_report.specs.declared.records.LibReport.{LibReport}
+use Rattle.headline.specs.Needed.{RunLaws}
 use Rattle.run_report.specs.declared.records.RunRecord.{RunRecord}
 use Rattle.script_run.specs.Calls.{CallsAs}
 use Rattle.script_run.specs.Means.{Leaves, report_of, seat_of}
@@ -35,21 +27,7 @@ use Rattle.script_text.specs.declared.steps.LibStep.{LibStep}
 use Rattle.script_text.specs.declared.steps.Step.{Step}
 use Rattle.session_core.specs.State.{State}
 use Rattle.switchboard.specs.Board.{Board}
-use Rattle.switchboard.specs.Ready.{IsReady}
 use Rattle.engine_laws.specs.texts.Taken.{TookTheirTexts}
-
--- what the laws of engines, texts and turns say
-pub record RunLaws (before : ℕ → List Entry) (start : ℕ → State) : Type 0 where
-  pub going : GoingLaws
-  pub turn : (reading : ℕ) (old new : AtWire) (turn : Turn) → MakesTurn reading old new turn → IsAccountedAt before start old.engine.moment old.engine.sessions → IsAccountedAt before start new.engine.moment new.engine.sessions
-  pub meets : (moment library : ℕ) (old new : LibraryDesk) (ends_old ends_new : EndsView) → DesksMeet library old new ends_old ends_new → IsAccountedAt before start moment old → IsAccountedAt before start moment new
-  pub leaves : (engine : Engine) (links : ℕ → Link) (seats : List LibraryView) (reports : List LibReport) (left : RunRecord)
-      → Finishes seats engine.lines.unkept.items engine.accepted engine.moment (until_of engine) engine.sessions left.engine → left.libraries ≡ reports
-      → IsAccountedAt before start engine.moment engine.sessions → TookTheirTexts engine.sessions.desk.board links → All (FitsTable engine.sessions.desk.seat.table.shape.libraries) seats
-      → LeavesAccounted before start engine links seats reports left
-  pub text_turn : (shared : Shared) (reading : ℕ) (old new : AtWire) (turn : Turn) → MakesTurn reading old new turn → IsAtWork shared old.engine → IsOnline old.engine old.door old.links
-      → IsReady before old.engine.sessions.desk.board → TookTheirTexts old.engine.sessions.desk.board old.links → TookTheirTexts new.engine.sessions.desk.board new.links
-  pub text_known : (board : Board) (old new : ℕ → Link) → ((c : ℕ) → LinkGoesOn (old c) (new c)) → TookTheirTexts board old → TookTheirTexts board new
 
 -- the library at a place changes, and stays numbered
 numbered_at : (Changes : Caller → Caller → Type 0) (place : ℕ) (old new : Run) (is : ChangesCaller Changes place old new)

@@ -28,8 +28,9 @@ use Rattle.headline.proofs.Walking.{each_in_turn}
 use Rattle.ring_links.specs.Ends.{HeadView, TailView}
 use Rattle.headline.specs.runs.Accounted.{AllTookAsAnswered, FitsTable, IsAccountedAt, LeavesAccounted, TookTextOrCutShort}
 use Rattle.headline.specs.runs.Lives.{DesksMeet}
-use Rattle.headline.proofs.run_lemmas.GoingOn.{GoingLaws, all_gathered}
+use Rattle.headline.proofs.run_lemmas.GoingOn.{all_gathered}
 use Rattle.headline.proofs.run_lemmas.Settled.{leases_stand}
+use Rattle.headline.specs.Needed.{GoingLaws}
 use Rattle.run_report.specs.declared.records.LibReport.{LibReport}
 use Rattle.run_report.specs.declared.records.RunRecord.{RunRecord}
 use Rattle.session_book.specs.Records.{Pending}

@@ -25,30 +25,19 @@ use Rattle.engine_loop.specs.declared.records.Turn.{Turn}
 use Rattle.lease_desk.specs.Desk.{Gathers, bodies_of}
 use Rattle.lease_desk.specs.declared.desk.LeaseDesk.{LeaseDesk}
 use Rattle.lease_words.specs.Views.{EngineView}
-use Rattle.library_desk.specs.Happening.{RunsFor}
-use Rattle.library_desk.specs.Serving.{Serves}
 use Rattle.library_desk.specs.declared.desk.LibraryDesk.{LibraryDesk}
-use Rattle.library_desk.specs.declared.serving.LibTurn.{LibTurn}
 use Rattle.headline.specs.runs.Sides.{DeskGoesOn, RunGoesOn}
 use Rattle.headline.proofs.run_lemmas.Sides.{begins_same, desk_alone, ends_change, goes_further, goes_itself, served}
 use Rattle.headline.proofs.Carrying.{each_step}
-use Rattle.headline.proofs.Walking.{WalkLaws, each_in_turn, walked}
+use Rattle.headline.proofs.Walking.{each_in_turn, walked}
+use Rattle.headline.specs.Needed.{GoingLaws}
 use Rattle.script_run.specs.declared.run.Run.{Run}
 use Rattle.script_run.specs.Runs.{CallsAt, CallsBetween, Carries, CarriesAt, CarriesOut, Meets, TurnsOver, with_room}
 use Rattle.script_text.specs.declared.steps.LibStep.{LibStep}
 use Rattle.script_text.specs.declared.steps.Step.{Step}
-use Rattle.switchboard.specs.Board.{Board, book_at, connection_at, place_at}
+use Rattle.switchboard.specs.Board.{book_at, connection_at, place_at}
 use Rattle.switchboard.specs.Going.{GoesOnTo}
 use Rattle.switchboard.specs.Happenings.{Happening, Reaches, accepts, dials, ends_unbound, gives, prepares, receives, reserves, shows, takes, ticks, writes}
-
--- what the laws of boards and of serving say
-pub record GoingLaws : Type 0 where
-  pub walks : WalkLaws
-  pub itself : (board : Board) → GoesOnTo board board
-  pub further : (first second third : Board) → GoesOnTo first second → GoesOnTo second third → GoesOnTo first third
-  pub runs : (happenings : List Happening) (old new : Board) → Reaches happenings old new → GoesOnTo old new
-  pub joins : (first second : List Happening) (old between new : Board) → Reaches first old between → Reaches second between new → Reaches (first ++ second) old new
-  pub serves : (library at until : ℕ) (old new : LibraryDesk) (turn : LibTurn) → Serves library at until old new turn → RunsFor at old.desk.board new.desk.board
 
 -- of the desk of leases
 pub record LeasesGoOn (old new : LeaseDesk) : Type 0 where

@@ -37,7 +37,7 @@ use Rattle.headline.specs.runs.Lives.{AreKept, AreUnused, DesksMeet, HasLived, H
 use Rattle.script_run.specs.declared.callers.Caller.{Caller}
 use Rattle.script_run.specs.declared.run.Run.{Run}
 use Rattle.headline.proofs.run_lemmas.Calls.{call_made}
-use Rattle.headline.proofs.run_lemmas.Carried.{RunLaws, called_between as account_called, carried as account_carried, met as account_met}
+use Rattle.headline.proofs.run_lemmas.Carried.{called_between as account_called, carried as account_carried, met as account_met}
 use Rattle.headline.proofs.run_lemmas.GoingOn.{made_turn}
 use Rattle.headline.proofs.run_lemmas.Numbers.{answers_met, replies_met}
 use Rattle.headline.proofs.run_lemmas.Places.{OfEach, each_behind, get_set_other, get_set_same}
@@ -46,6 +46,7 @@ use Rattle.headline.proofs.run_lemmas.Sides.{begins_further, begins_itself}
 use Rattle.headline.proofs.run_lemmas.Starts.{past_end}
 use Rattle.headline.proofs.Carrying.{each_step}
 use Rattle.headline.proofs.Walking.{each_in_turn}
+use Rattle.headline.specs.Needed.{RunLaws}
 use Rattle.run_report.specs.declared.calls.Call.{Call as Kept}
 use Rattle.script_run.specs.Calls.{CallsAs}
 use Rattle.script_run.specs.Means.{StartsRun}

@@ -5,35 +5,21 @@ use Rattle.lease_desk.specs.declared.desk.LeaseDesk.{LeaseDesk}
 use Rattle.library_desk.specs.declared.desk.LibraryDesk.{LibraryDesk}
 use Rattle.engine_laws.specs.libraries.Feeds.{AreFed, IsFed, IsLogged}
 use Rattle.engine_laws.proofs.library_lemmas.Fed.{board_goes_on, met, served}
-use Rattle.engine_laws.proofs.library_lemmas.Going.{Keeps, Laws, gathering_keeps, keeps_further, keeps_itself, run_keeps}
+use Rattle.engine_laws.proofs.library_lemmas.Going.{Keeps, gathering_keeps, keeps_further, keeps_itself, run_keeps}
 use Rattle.engine_laws.proofs.library_lemmas.Steps.{IsKept}
 use Rattle.engine_laws.proofs.library_lemmas.Turns.{all_gathered, records_handed_out, turn_made, turn_taken}
 use Rattle.engine_laws.proofs.libraries.messages_are_in_order.Goals as goal
-
-laws : goal.After-words_raise_lines → Laws
-laws c = record {
-  tell = c.lines_tell_the_owner.ensures.owner;
-  over = c.lines_go_on.ensures.list;
-  one = c.lines_go_on.ensures.one;
-  raises = c.words_raise_lines.ensures.shown;
-  holds = c.words_raise_lines.ensures.held;
-  goes_on = c.boards_stay_in_step.ensures.goes_on;
-  happens = c.boards_go_on.ensures.happening;
-  runs = c.boards_go_on.ensures.run;
-  desk = c.others_stay.ensures.desk;
-  session = c.others_stay.ensures.session;
-}
 
 -- the boards of two desks
 abbrev KeepsBoard : LeaseDesk → LeaseDesk → Type 0
 KeepsBoard old new = Keeps old.board new.board
 
-kept : goal.After-words_raise_lines → IsKept KeepsBoard
+kept : goal.After-owners_go_on → IsKept KeepsBoard
 kept c = record {
   itself = λ desk. keeps_itself desk.board;
   further = λ first second third. keeps_further first.board second.board third.board;
-  gathers = gathering_keeps (laws c);
-  aside = λ happenings old new all reaches seat. run_keeps (laws c) happenings old.board new.board all reaches;
+  gathers = gathering_keeps c.owners_go_on.ensures;
+  aside = λ happenings old new all reaches seat. run_keeps c.owners_go_on.ensures happenings old.board new.board all reaches;
   publishes = λ s count old new board seat. subst (Keeps old.board) (sym board) (keeps_itself old.board);
   joins = c.boards_stay_ready.ensures.further;
 }
@@ -56,13 +42,13 @@ returns-clause-first c = λ config moment shared d desk engine count nobody. rec
 }
 
 pub returns-clause-serves : goal.returns-clause-serves
-returns-clause-serves c = served (laws c) c.lines_tell_the_owner.ensures.lease c.last_lines_are_last.ensures.last
+returns-clause-serves c = served c.owners_go_on.ensures c.lines_tell_the_owner.ensures.lease c.last_lines_are_last.ensures.last
 
 pub returns-clause-takes : goal.returns-clause-takes
-returns-clause-takes c = turn_taken AreFed KeepsBoard goes_on (kept c) (served (laws c) c.lines_tell_the_owner.ensures.lease c.last_lines_are_last.ensures.last)
+returns-clause-takes c = turn_taken AreFed KeepsBoard goes_on (kept c) (served c.owners_go_on.ensures c.lines_tell_the_owner.ensures.lease c.last_lines_are_last.ensures.last)
 
 pub returns-clause-turn : goal.returns-clause-turn
-returns-clause-turn c = turn_made AreFed KeepsBoard goes_on (kept c) (served (laws c) c.lines_tell_the_owner.ensures.lease c.last_lines_are_last.ensures.last)
+returns-clause-turn c = turn_made AreFed KeepsBoard goes_on (kept c) (served c.owners_go_on.ensures c.lines_tell_the_owner.ensures.lease c.last_lines_are_last.ensures.last)
 
 pub returns-clause-hands_out : goal.returns-clause-hands_out
 returns-clause-hands_out c = records_handed_out AreFed KeepsBoard goes_on

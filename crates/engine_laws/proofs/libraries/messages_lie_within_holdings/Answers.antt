@@ -5,28 +5,13 @@ use Rattle.engine_end.specs.Finishing.{with_seats}
 use Rattle.lease_core.specs.declared.entry.Entry.{Entry}
 use Rattle.library_desk.specs.declared.desk.LibraryDesk.{LibraryDesk}
 use Rattle.engine_laws.specs.libraries.Spans.{AllLieWithin, LiesWithin}
-use Rattle.engine_laws.proofs.library_lemmas.Going.{Laws as GoingLaws}
 use Rattle.engine_laws.proofs.library_lemmas.Turns.{all_gathered, records_handed_out, turn_made, turn_taken}
 use Rattle.engine_laws.proofs.library_lemmas.Within.{GoesDesk, Held, Laws, boards_go_on, desk_goes_on, kept, met, served}
 use Rattle.engine_laws.proofs.libraries.messages_lie_within_holdings.Goals as goal
 
-going : goal.After-words_raise_lines → GoingLaws
-going c = record {
-  tell = c.lines_tell_the_owner.ensures.owner;
-  over = c.lines_go_on.ensures.list;
-  one = c.lines_go_on.ensures.one;
-  raises = c.words_raise_lines.ensures.shown;
-  holds = c.words_raise_lines.ensures.held;
-  goes_on = c.boards_stay_in_step.ensures.goes_on;
-  happens = c.boards_go_on.ensures.happening;
-  runs = c.boards_go_on.ensures.run;
-  desk = c.others_stay.ensures.desk;
-  session = c.others_stay.ensures.session;
-}
-
-laws : goal.After-words_raise_lines → Laws
+laws : goal.After-owners_go_on → Laws
 laws c = record {
-  going = going c;
+  going = c.owners_go_on.ensures;
   journals = record { adjoin = c.holdings_adjoin.ensures; one = c.entries_decide_one_by_one.ensures.state; runs = c.entries_decide_one_by_one.ensures.runs };
   lease_told = c.lines_tell_the_owner.ensures.lease;
   pushed_last = c.last_lines_are_last.ensures.last;
@@ -41,7 +26,7 @@ laws c = record {
 none : ℕ → List Entry
 none s = []
 
-goes_on : (c : goal.After-words_raise_lines) (old new : LibraryDesk) → GoesDesk (laws c) none old.desk new.desk → new ≡ record old { desk = new.desk } → AllLieWithin old → AllLieWithin new
+goes_on : (c : goal.After-owners_go_on) (old new : LibraryDesk) → GoesDesk (laws c) none old.desk new.desk → new ≡ record old { desk = new.desk } → AllLieWithin old → AllLieWithin new
 goes_on c old new goes rest = boards_go_on (laws c) old new goes.on (ap (λ (d : LibraryDesk). d.ends.items) rest)
 
 pub returns-clause-first : goal.returns-clause-first

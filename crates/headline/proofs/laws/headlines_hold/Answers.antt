@@ -2,25 +2,12 @@ use Rattle.std.proofs.Common.{◌≡◌, ℕ, ◌<◌, length, map, sym, ap, sub
 use Rattle.std.proofs.lemmas.List.{length-map}
 use Rattle.engine_loop.specs.Engines.{until_of}
 use Rattle.gate_io.specs.MemWire.{link_at}
-use Rattle.headline.proofs.MeetsHeadline.{HeadlineLaws, meets_headline}
+use Rattle.headline.proofs.MeetsHeadline.{meets_headline}
 use Rattle.headline.proofs.laws.headlines_hold.Goals as goal
 use Rattle.headline.specs.Numbering.{AreInOrder}
 use Rattle.headline.specs.runs.Accounted.{first_machines, no_entries}
 use Rattle.script_run.specs.Means.{report_of, seat_of}
 use Rattle.session_book.specs.Book.{Book}
-
-laws : goal.After-texts_are_taken → HeadlineLaws
-laws c = record {
-  accounts = record {
-    stands = c.accounts_are_whole.ensures.stands;
-    named = c.accounts_are_whole.ensures.named;
-    unbound = c.accounts_are_whole.ensures.unbound;
-    waiting = c.accounts_are_whole.ensures.waiting;
-  };
-  one_owner = c.one_owner_at_a_time.ensures;
-  holdings = c.holdings_adjoin.ensures;
-  libraries = record { pops = c.replies_close_requests.ensures.popped; lines_tell = c.lines_tell_deeds.ensures.library; handed = c.kept_calls_tell.ensures.notices };
-}
 
 pub returns : goal.returns
 returns c = λ script left means fits journals.
@@ -47,7 +34,7 @@ returns c = λ script left means fits journals.
     let in_order = numbers.carries_out script.steps count first last means.leads.carries (numbers.first config _ means.shared first means.starts) in
     let ends = c.connections_end_whole.ensures in
     let logons = c.logons_come_first.ensures in
-    meets_headline config last.engine (link_at last.wire) (map seat_of last.callers.items) (map report_of last.callers.items) left leaves (laws c) last.wire.dialled
+    meets_headline config last.engine (link_at last.wire) (map seat_of last.callers.items) (map report_of last.callers.items) left leaves c.accounts_and_calls_are_told.ensures last.wire.dialled
     (record {
       fits = fits;
       sessions = record {

@@ -9,12 +9,11 @@ use Rattle.engine_loop.specs.Turns.{AtWire, at_wire}
 use Rattle.engine_loop.specs.declared.engine.Engine.{Engine}
 use Rattle.gate_io.specs.Wire.{Door, Link}
 use Rattle.gate_io.specs.declared.clocks.TheConstants.{LAST_MOMENT}
-use Rattle.headline.proofs.AccountLaws.{AccountLaws}
 use Rattle.headline.proofs.Coming.{AtWireInOrder, gathered_numbered}
 use Rattle.headline.proofs.Driven.{drove_in_order, drove_whole, first_ended, first_in_order}
 use Rattle.headline.proofs.Few.{AreFewAt, drove_few, first_few}
 use Rattle.headline.proofs.Finished.{finished, none_spent}
-use Rattle.headline.proofs.MeetsHeadline.{HeadlineLaws, meets_headline}
+use Rattle.headline.proofs.MeetsHeadline.{meets_headline}
 use Rattle.headline.proofs.Whole.{gathered_whole}
 use Rattle.headline.proofs.laws.served_headlines_hold.Goals as goal
 use Rattle.headline.specs.Ends.{AllEndedWhole}
@@ -31,43 +30,6 @@ use Rattle.serve_run.specs.Serves.{Serves, connections_of}
 use Rattle.session_core.specs.State.{State}
 use Rattle.switchboard.specs.Board.{Board, connection_at}
 use Rattle.switchboard.specs.Ready.{entries_of}
-
-laws : goal.After-served_scripts_are_accounted_for → HeadlineLaws
-laws c = record {
-  accounts = record {
-    stands = c.accounts_are_whole.ensures.stands;
-    named = c.accounts_are_whole.ensures.named;
-    unbound = c.accounts_are_whole.ensures.unbound;
-    waiting = c.accounts_are_whole.ensures.waiting;
-  };
-  one_owner = c.one_owner_at_a_time.ensures;
-  holdings = c.holdings_adjoin.ensures;
-  libraries = record { pops = c.replies_close_requests.ensures.popped; lines_tell = c.lines_tell_deeds.ensures.library; handed = c.kept_calls_tell.ensures.notices };
-}
-
-ends : goal.After-served_scripts_are_accounted_for → AccountLaws
-ends c = record {
-  walks = c.turns_are_walks.ensures;
-  itself = c.happenings_are_accounted_for.ensures.itself;
-  aside = c.happenings_are_accounted_for.ensures.aside;
-  takes = c.happenings_are_accounted_for.ensures.takes;
-  gives_none = c.happenings_are_accounted_for.ensures.gives_none;
-  gives_one = c.happenings_are_accounted_for.ensures.gives_one;
-  gives_last = c.happenings_are_accounted_for.ensures.gives_last;
-  stops = c.happenings_are_accounted_for.ensures.stops;
-  gathers = c.sessions_are_accounted_for.ensures.gathers;
-  hears = c.sessions_are_accounted_for.ensures.hears;
-  greets = c.sessions_are_accounted_for.ensures.greets;
-  parts = c.sessions_are_accounted_for.ensures.parts;
-  accepts = c.steps_are_accounted_for.ensures.accepts;
-  dials = c.steps_are_accounted_for.ensures.dials;
-  reads = c.steps_are_accounted_for.ensures.reads;
-  ticks = c.steps_are_accounted_for.ensures.ticks;
-  serves = c.steps_are_accounted_for.ensures.serves;
-  notes = c.steps_are_accounted_for.ensures.notes;
-  publishes = c.steps_are_accounted_for.ensures.publishes;
-  serving = c.serving_happens.ensures.serves;
-}
 
 -- what a script that is served comes to, before it is said in the words of its record
 module _ (c : goal.After-served_scripts_are_accounted_for) (script : Script) (turns : ℕ) (wide : Bool) (old new : Door) (old_links new_links : ℕ → Link) (left : RunRecord) (spent : Option ℕ)
@@ -94,13 +56,13 @@ module _ (c : goal.After-served_scripts_are_accounted_for) (script : Script) (tu
   same = ap (λ (e : Engine). e.sessions.desk.board) is.has_met
 
   last_order : AtWireInOrder (at_wire serves.last new new_links)
-  last_order = subst AtWireInOrder serves.drives.at (drove_in_order c.turns_are_walks.ensures c.serving_happens.ensures.serves (connections_of config) config.libraries serves.drives.count begin serves.drives.last serves.drives.drives
+  last_order = subst AtWireInOrder serves.drives.at (drove_in_order c.accounts_are_kept.ensures.walks c.accounts_are_kept.ensures.serving (connections_of config) config.libraries serves.drives.count begin serves.drives.last serves.drives.drives
       (first_in_order config moment serves.shared serves.first old old_links serves.starts accepted dialled))
 
   last_ended : AllEndedWhole serves.last.sessions.desk.board
   last_ended =
       subst (λ (a : AtWire). AllEndedWhole a.engine.sessions.desk.board) serves.drives.at
-      (drove_whole no_entries start (ends c) (c.drives_are_accounted_for.ensures.once no_entries start) (connections_of config) config.libraries serves.drives.count begin serves.drives.last serves.drives.drives
+      (drove_whole no_entries start c.accounts_are_kept.ensures (c.drives_are_accounted_for.ensures.once no_entries start) (connections_of config) config.libraries serves.drives.count begin serves.drives.last serves.drives.drives
       (record {
         engine = c.engines_are_accounted_for.ensures.first config moment serves.shared serves.first serves.starts;
         texts = c.texts_are_taken.ensures.first (entries_of serves.first.sessions.desk.board) serves.first.sessions.desk.board old_links serves.starts.sessions.first;
@@ -122,7 +84,7 @@ module _ (c : goal.After-served_scripts_are_accounted_for) (script : Script) (tu
       (subst (λ (b : Board). AreInOrder new.accepted new.dialled b.connections) (sym same) last_order.connections))
 
   headline_holds : IsConfig config → All HasLawfulJournal left.engine.sessions → Headline config new_links left
-  headline_holds fits journals = meets_headline config is.engine new_links is.seats is.reports left is.leaves (laws c) new.dialled
+  headline_holds fits journals = meets_headline config is.engine new_links is.seats is.reports left is.leaves c.accounts_and_calls_are_told.ensures new.dialled
       (record {
         fits = fits;
         sessions = record {
@@ -141,7 +103,7 @@ module _ (c : goal.After-served_scripts_are_accounted_for) (script : Script) (tu
 
   last_few : AreFewAt config.connections config.dials (at_wire serves.last new new_links)
   last_few = subst (AreFewAt config.connections config.dials) serves.drives.at
-      (drove_few config.connections config.dials c.turns_are_walks.ensures c.serving_happens.ensures.serves (connections_of config) config.libraries serves.drives.count begin serves.drives.last serves.drives.drives
+      (drove_few config.connections config.dials c.accounts_are_kept.ensures.walks c.accounts_are_kept.ensures.serving (connections_of config) config.libraries serves.drives.count begin serves.drives.last serves.drives.drives
       (first_few config moment serves.shared serves.first old old_links serves.starts dialled))
 
   run_finished : None ≡ spent → IsFinished config.connections config.dials left

@@ -4,7 +4,6 @@ use Rattle.lease_core.specs.declared.entry.Entry.{Entry}
 use Rattle.engine_laws.specs.libraries.Replies.{AreAnswered}
 use Rattle.engine_laws.specs.libraries.Sends.{AreTaken}
 use Rattle.headline.specs.runs.Accounted.{no_entries}
-use Rattle.headline.proofs.run_lemmas.GoingOn.{GoingLaws}
 use Rattle.headline.proofs.run_lemmas.Engines.{Laws, left_by, met, turn_made}
 use Rattle.headline.proofs.run_lemmas.Starts.{by_machines, cursors_are, none_before, not_owned}
 use Rattle.headline.proofs.runs.engines_are_accounted_for.Goals as goal
@@ -12,19 +11,9 @@ use Rattle.session_core.specs.State.{State}
 use Rattle.switchboard.specs.Ready.{IsReady, entries_of}
 use Rattle.switchboard.specs.Told.{machines_of}
 
-going : goal.After-sends_are_taken → GoingLaws
-going c = record {
-  walks = c.turns_are_walks.ensures;
-  itself = c.boards_go_on.ensures.itself;
-  further = c.boards_go_on.ensures.further;
-  runs = c.boards_go_on.ensures.run;
-  joins = c.boards_stay_ready.ensures.further;
-  serves = c.serving_happens.ensures.serves;
-}
-
 laws : goal.After-sends_are_taken → (before : ℕ → List Entry) (start : ℕ → State) → Laws before start
 laws c before start = record {
-  going = going c;
+  going = c.turns_and_boards_go_on.ensures;
   turn_ready = c.turns_are_accounted_for.ensures.ready before;
   turn_account = c.turns_are_accounted_for.ensures.account before start;
   turn_answered = c.requests_are_answered.ensures.turn before;

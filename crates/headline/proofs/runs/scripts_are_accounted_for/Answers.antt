@@ -1,29 +1,17 @@
 use Rattle.std.proofs.Common.{ap, length, ◌∙◌}
 use Rattle.headline.specs.runs.Accounted.{first_machines, no_entries}
-use Rattle.headline.proofs.run_lemmas.Borne.{ApiLaws, all_borne_out, all_replied, all_reported_of}
+use Rattle.headline.proofs.run_lemmas.Borne.{all_borne_out, all_replied, all_reported_of}
 use Rattle.session_book.specs.Book.{Book}
 use Rattle.headline.proofs.runs.scripts_are_accounted_for.Goals as goal
 
-laws : goal.After-libraries_live → ApiLaws
-laws c = record {
-  polls_pop = c.replies_close_requests.ensures.popped;
-  polls_close = c.requests_are_numbered.ensures.closed;
-  closed = c.replies_close_requests.ensures.closed;
-  deeds_are_answered = c.deeds_are_answered.ensures;
-  posts_are_sent = c.posts_are_sent.ensures;
-  no_gap = c.reads_have_no_gap.ensures.reads;
-  beginnings = c.reads_have_no_gap.ensures.beginnings;
-  numbered = c.requests_are_numbered.ensures.numbers;
-}
-
 pub returns-clause-reported : goal.returns-clause-reported
-returns-clause-reported c = all_reported_of (laws c)
+returns-clause-reported c = all_reported_of c.calls_are_answered.ensures
 
 pub returns-clause-borne_out : goal.returns-clause-borne_out
-returns-clause-borne_out c = all_borne_out (laws c)
+returns-clause-borne_out c = all_borne_out c.calls_are_answered.ensures
 
 pub returns-clause-replied : goal.returns-clause-replied
-returns-clause-replied c = all_replied (laws c)
+returns-clause-replied c = all_replied c.calls_are_answered.ensures
 
 pub returns-clause-means : goal.returns-clause-means
 returns-clause-means c = λ script left is.
