@@ -1,5 +1,5 @@
-//! The program's command line, whatever it is run on: its words, a script that is replayed or a drill, the line of a
-//! status that isn't Ok, and the exit status.
+//! The program's command line, whatever it is run on: its words, a script that is replayed or a drill, the
+//! script that is to be served, the line of a status that isn't Ok, and the exit status.
 
 use crate::replaying::replay;
 use crate::statuses::Status;

@@ -1,17 +1,12 @@
 //! How the script is read.
 
 ghost use Rattle.std.specs.Prelude.{◌≡◌, IfErr, IfOk};
-ghost use Rattle.std.specs.List.{All};
-ghost use Rattle.engine_end.specs.Records.{HasLawfulJournal};
 ghost use Rattle.gate_io.specs.Source.{GaveWithin, IsAllOf};
 ghost use Rattle.gateway_run.specs.Outcome.{IsTextOf, RefusesSource};
-ghost use Rattle.run_report.specs.Records.{no_run};
 ghost use Rattle.script_text.specs.Lawful.{IsLawful};
 
 use crate::statuses::Status;
-use engine_end::EngineRecord;
-use gate_io::{ReadAll, Rows, Source, read_all};
-use run_report::RunRecord;
+use gate_io::{ReadAll, Source, read_all};
 use script_text::{LONGEST_SCRIPT, Script, ScriptError, ScriptKind, read_script};
 use std::alloc::Global;
 
@@ -48,22 +43,5 @@ fn text_of<So: Source>(alloc: Global, source: &mut So, serving: bool) -> Result<
             line: 0,
             kind: ScriptKind::TooLong,
         }),
-    }
-}
-
-/// The record of a run that didn't begin.
-pub(crate) fn no_record(alloc: Global) -> RunRecord
-    ensures none { result ≡ no_run }
-    ensures journals { All HasLawfulJournal result.engine.sessions }
-{
-    RunRecord {
-        engine: EngineRecord {
-            sessions: Rows::of(Vec::new(alloc)),
-            connections: Rows::of(Vec::new(alloc)),
-            strays: Rows::of(Vec::new(alloc)),
-            accepted: 0,
-            added: Rows::of(Vec::new(alloc)),
-        },
-        libraries: Rows::of(Vec::new(alloc)),
     }
 }

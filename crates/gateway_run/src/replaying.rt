@@ -19,7 +19,7 @@ ghost use Rattle.script_text.specs.declared.kinds.ScriptKind.{ScriptKind};
 ghost use Rattle.script_text.specs.declared.steps.Script.{Script as TheScript};
 
 use crate::journals::lawful_journals_adjoin;
-use crate::reading::{no_record, script_in};
+use crate::reading::script_in;
 use crate::statuses::Status;
 use crate::writing::{Printed, write};
 use command_words::laws::words_give_one;
@@ -80,9 +80,9 @@ pub fn replay<So: Source, Si: Sink>(
     match command_of(alloc, words) {
         Ok(Chosen::Replay { .. }) => replay_script(alloc, script, out),
         Ok(Chosen::Drill { n }) => replay_drill(alloc, n, out),
-        Ok(Chosen::Serve { .. }) => (Status::Usage, no_record(alloc)),
-        Err(WordsError::Usage) => (Status::Usage, no_record(alloc)),
-        Err(WordsError::OutOfMemory) => (Status::OutOfMemory, no_record(alloc)),
+        Ok(Chosen::Serve { .. }) => (Status::Usage, RunRecord::none(alloc)),
+        Err(WordsError::Usage) => (Status::Usage, RunRecord::none(alloc)),
+        Err(WordsError::OutOfMemory) => (Status::OutOfMemory, RunRecord::none(alloc)),
     }
 }
 
@@ -99,7 +99,7 @@ fn replay_script<So: Source, Si: Sink>(
 {
     let script = match script_in(alloc, source, false) {
         Ok(script) => script,
-        Err(status) => return (status, no_record(alloc)),
+        Err(status) => return (status, RunRecord::none(alloc)),
     };
     scripts_are_accounted_for();
     headlines_hold();
@@ -126,7 +126,7 @@ fn replay_drill<Si: Sink>(alloc: Global, n: u32, out: &mut Si) -> (Status, RunRe
     headlines_hold_in_part();
     let script = match drill(alloc, n) {
         Ok(script) => script,
-        Err(NoMemory::OutOfMemory) => return (Status::OutOfMemory, no_record(alloc)),
+        Err(NoMemory::OutOfMemory) => return (Status::OutOfMemory, RunRecord::none(alloc)),
     };
     match carry_out(alloc, script) {
         Ok(run) => {

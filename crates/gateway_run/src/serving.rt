@@ -18,7 +18,7 @@ ghost use Rattle.script_text.specs.declared.kinds.ScriptKind.{ScriptKind};
 ghost use Rattle.script_text.specs.declared.steps.Script.{Script as TheScript};
 
 use crate::journals::lawful_journals_adjoin;
-use crate::reading::{no_record, script_in};
+use crate::reading::script_in;
 use crate::statuses::Status;
 use crate::writing::{Printed, write};
 use command_words::laws::words_give_one;
@@ -36,7 +36,7 @@ use std::thread::Threads;
 /// the wire, and each library carries out its lines, in threads of their own. It ends where as many connections as
 /// are configured were accepted and have ended, as many as `dials` says were dialled and have ended, and each library
 /// said that all its work is done; or where the engine made as many turns as the words say. A library gives its work
-/// up at a line that had as many waiting turns. Then the report of it all is written. Nothing says that it returns.
+/// up at a line that had as many waiting turns. Then the report of it all is written.
 ///
 /// Statuses are tested in the order `Usage`, `ReadFault`, `ScriptFault`, `ListenFault`, `WriteFault`, `TurnsSpent`.
 /// The record is empty where no run began; where memory was wanting later it is what there was.
@@ -107,10 +107,10 @@ pub fn serve<
                 out,
             )
         }
-        Ok(Chosen::Replay { .. }) => (Status::Usage, no_record(alloc)),
-        Ok(Chosen::Drill { .. }) => (Status::Usage, no_record(alloc)),
-        Err(WordsError::Usage) => (Status::Usage, no_record(alloc)),
-        Err(WordsError::OutOfMemory) => (Status::OutOfMemory, no_record(alloc)),
+        Ok(Chosen::Replay { .. }) => (Status::Usage, RunRecord::none(alloc)),
+        Ok(Chosen::Drill { .. }) => (Status::Usage, RunRecord::none(alloc)),
+        Err(WordsError::Usage) => (Status::Usage, RunRecord::none(alloc)),
+        Err(WordsError::OutOfMemory) => (Status::OutOfMemory, RunRecord::none(alloc)),
     }
 }
 
@@ -143,12 +143,12 @@ fn serve_at<
 {
     let script = match script_in(alloc, source, true) {
         Ok(script) => script,
-        Err(status) => return (status, no_record(alloc)),
+        Err(status) => return (status, RunRecord::none(alloc)),
     };
     match wire.listen(address) {
         Listened::Ready => serve_out(rt, alloc, script, turns, wire, clock, gate, out),
-        Listened::Failed => (Status::ListenFault, no_record(alloc)),
-        Listened::OutOfMemory => (Status::OutOfMemory, no_record(alloc)),
+        Listened::Failed => (Status::ListenFault, RunRecord::none(alloc)),
+        Listened::OutOfMemory => (Status::OutOfMemory, RunRecord::none(alloc)),
     }
 }
 

@@ -1,5 +1,6 @@
 -- The text of a record, line by line.
 pub mod Records
+pub mod Room
 pub mod Lines
 pub mod Journals
 pub mod Sessions

@@ -1,8 +1,13 @@
 //! What a run leaves.
+
+ghost use Rattle.std.specs.Prelude.{◌≡◌};
+ghost use Rattle.run_report.specs.Records.{no_run};
+
 use crate::calls::Call;
 use engine_end::EngineRecord;
 use gate_io::Rows;
 use library_api::Waited;
+use std::alloc::Global;
 
 /// What a run leaves of a library.
 #[derive(Debug, Drop)]
@@ -24,4 +29,22 @@ pub struct RunRecord {
     pub engine: EngineRecord,
     /// The libraries, in the order of their numbers.
     pub libraries: Rows<LibReport>,
+}
+
+impl RunRecord {
+    /// The record of a run that didn't begin.
+    pub fn none(alloc: Global) -> RunRecord
+        ensures { result ≡ no_run }
+    {
+        RunRecord {
+            engine: EngineRecord {
+                sessions: Rows::of(Vec::new(alloc)),
+                connections: Rows::of(Vec::new(alloc)),
+                strays: Rows::of(Vec::new(alloc)),
+                accepted: 0,
+                added: Rows::of(Vec::new(alloc)),
+            },
+            libraries: Rows::of(Vec::new(alloc)),
+        }
+    }
 }

@@ -3,6 +3,7 @@
 ghost use Rattle.std.specs.Prelude.{◌≡◌, ◌≤◌, IfErr, IfOk, false, length, ◌⊎◌};
 ghost use Rattle.std.specs.List.{All};
 ghost use Rattle.run_report.specs.Records.{no_run};
+ghost use Rattle.run_report.specs.Room.{IsRoomFor};
 ghost use Rattle.script_run.specs.Stops.{LeadsInPart, MeansInPart};
 ghost use Rattle.engine_loop.specs.Records.{HasLawfulJournal};
 ghost use Rattle.script_run.specs.Comes.{FitBehind};
@@ -10,13 +11,11 @@ ghost use Rattle.script_run.specs.Means.{LeadsTo, Means, first_moment};
 ghost use Rattle.script_run.specs.Runs.{IsRunning};
 ghost use Rattle.script_text.specs.Lawful.{IsLawful};
 
-use crate::leaving::LibraryRoom;
 use crate::run::Run;
 use crate::starting::start;
-use engine_loop::EngineRecord;
-use gate_io::{NoMemory, Rows};
+use gate_io::NoMemory;
 use library_desk::Shared;
-use run_report::RunRecord;
+use run_report::{LibraryRoom, RunRecord};
 use script_text::{Script, Step};
 use std::alloc::Global;
 
@@ -35,11 +34,11 @@ pub fn carry_out(alloc: Global, script: Script) -> Result<RunRecord, (NoMemory, 
     let steps = steps.as_slice();
     let room = match LibraryRoom::new(alloc, usize::from(config.libraries)) {
         Ok(room) => room,
-        Err(why) => return Err((why, no_record(alloc))),
+        Err(why) => return Err((why, RunRecord::none(alloc))),
     };
     match start(alloc, config, first_moment(steps)) {
         Ok((shared, run)) => carry_to_end(alloc, &shared, run, room, steps),
-        Err(why) => Err((why, no_record(alloc))),
+        Err(why) => Err((why, RunRecord::none(alloc))),
     }
 }
 
@@ -54,7 +53,7 @@ fn carry_to_end(
     requires running { IsRunning shared.now run }
     requires stands { run.engine.failed ≡ false }
     requires fit { FitBehind (length run.callers.items) run.wire steps.now }
-    requires room { length run.callers.items ≤ room }
+    requires room { IsRoomFor (length run.callers.items) room }
     ensures leads { IfOk result (LeadsTo steps.now run) }
     ensures in_part { IfErr result (λ e. LeadsInPart steps.now run e.1) }
     ensures journals { IfOk result (λ left. All HasLawfulJournal left.engine.sessions) }
@@ -65,23 +64,6 @@ fn carry_to_end(
         Err(why) => match run.leave(alloc, shared, room) {
             Ok(left) | Err((_, left)) => Err((why, left)),
         },
-    }
-}
-
-/// The record of a run that didn't begin.
-fn no_record(alloc: Global) -> RunRecord
-    ensures journals { All HasLawfulJournal result.engine.sessions }
-    ensures none { result ≡ no_run }
-{
-    RunRecord {
-        engine: EngineRecord {
-            sessions: Rows::of(Vec::new(alloc)),
-            connections: Rows::of(Vec::new(alloc)),
-            strays: Rows::of(Vec::new(alloc)),
-            accepted: 0,
-            added: Rows::of(Vec::new(alloc)),
-        },
-        libraries: Rows::of(Vec::new(alloc)),
     }
 }
 

@@ -9,6 +9,7 @@ ghost use Rattle.engine_loop.specs.LibraryEnds.{LibraryEnds as TheEnds};
 ghost use Rattle.gate_io.specs.Clock.{TakesReadings};
 ghost use Rattle.gate_io.specs.Wire.{Door, Link};
 ghost use Rattle.run_report.specs.Records.{no_run};
+ghost use Rattle.run_report.specs.Room.{IsRoomFor};
 ghost use Rattle.script_text.specs.Lawful.{IsLawful};
 ghost use Rattle.serve_run.specs.Meetings.{AreWorkers};
 ghost use Rattle.serve_run.specs.Serves.{Concludes, Serves, first_unfinished};
@@ -17,16 +18,16 @@ ghost use Rattle.serve_run.specs.Workers.{StartsWorkers};
 
 use crate::awaited::Awaited;
 use crate::dealing::deal_all;
-use crate::leaving::{LibraryRoom, leave};
+use crate::leaving::leave;
 use crate::meeting::meet_all;
 use crate::side_by_side::run_all;
 use crate::starting::workers;
 use crate::workers::Worker;
 use engine_config::Config;
-use engine_loop::{Engine, EngineRecord, LibraryEnds, start};
-use gate_io::{Clock, Dial, Gate, LAST_MOMENT, NoMemory, Rows};
+use engine_loop::{Engine, LibraryEnds, start};
+use gate_io::{Clock, Dial, Gate, LAST_MOMENT, NoMemory};
 use library_desk::Shared;
-use run_report::{LibReport, RunRecord};
+use run_report::{LibReport, LibraryRoom, RunRecord};
 use script_text::{Script, Step};
 use std::alloc::Global;
 use std::thread::Threads;
@@ -42,7 +43,7 @@ pub struct Served {
 /// Serves a script over a wire that listens: the engine, and each library with its plan, in threads of their own. The
 /// engine makes turns until as many connections as are configured were accepted and ended, as many as `dials` says
 /// were dialled and ended, and each library said that all is done; or until it made as many turns as it may. Each
-/// library gives its plan up at a line that had as many waiting turns. Nothing says that it returns.
+/// library gives its plan up at a line that had as many waiting turns.
 ///
 /// Without memory the run ends, once the libraries have ended too, and leaves what there is, each journal lawful.
 pub fn serve_script<R: Threads + Sync, W: Dial + Send, C: Clock + Send, G: Gate + Sync>(
@@ -71,12 +72,12 @@ pub fn serve_script<R: Threads + Sync, W: Dial + Send, C: Clock + Send, G: Gate 
     let asks = config.asks;
     let room = match LibraryRoom::new(alloc, libraries) {
         Ok(room) => room,
-        Err(why) => return Err((why, no_record(alloc))),
+        Err(why) => return Err((why, RunRecord::none(alloc))),
     };
     let moment = clock.now().min(LAST_MOMENT);
     let (mut engine, shared, ends) = match start(alloc, config, moment) {
         Ok(made) => made,
-        Err(why) => return Err((why, no_record(alloc))),
+        Err(why) => return Err((why, RunRecord::none(alloc))),
     };
     let mut workers = match planned(alloc, &shared, ends, asks, steps.into_inner()) {
         Ok(workers) => workers,
@@ -130,7 +131,7 @@ fn conclude(
     requires engine { (door : Door) × (links : ℕ → Link) × IsEngine shared.now engine door links }
     requires stands { OnOk ended (engine.failed ≡ false) }
     requires workers { AreWorkers shared.now workers.items }
-    requires room { length workers.items ≤ room }
+    requires room { IsRoomFor (length workers.items) room }
     ensures concludes { IfOk result (λ served. IfOk ended (λ over. Concludes over engine workers.items served.run served.spent)) }
     ensures in_part { IfErr result (λ e. LeavesInPart engine workers.items e.1) }
     ensures ended { OnErr ended (IsErr result) }
@@ -176,21 +177,4 @@ fn first_unfinished(reports: &[LibReport]) -> Option<u8>
         }
     }
     None
-}
-
-/// The record of a run that didn't begin.
-fn no_record(alloc: Global) -> RunRecord
-    ensures journals { All HasLawfulJournal result.engine.sessions }
-    ensures none { result ≡ no_run }
-{
-    RunRecord {
-        engine: EngineRecord {
-            sessions: Rows::of(Vec::new(alloc)),
-            connections: Rows::of(Vec::new(alloc)),
-            strays: Rows::of(Vec::new(alloc)),
-            accepted: 0,
-            added: Rows::of(Vec::new(alloc)),
-        },
-        libraries: Rows::of(Vec::new(alloc)),
-    }
 }
