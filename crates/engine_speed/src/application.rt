@@ -1,4 +1,4 @@
-//! The library's side.
+//! A library that answers orders: what it polls and sends.
 
 ghost use Rattle.std.specs.Prelude.{◌≡◌};
 ghost use Rattle.engine_start.specs.Starts.{AreLibraryEnds};

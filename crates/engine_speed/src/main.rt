@@ -3,6 +3,14 @@
 //! with one session, one library and N connections that rest, `sessions N` a thousand turns with N sessions
 //! that are logged on and 16 libraries, all of which rest, `orders N` to answer N orders in one thread, and
 //! `apart N` to answer N orders with the library in a thread of its own.
+//!
+//! Stands on `engine_loop` (turns, which are measured), `engine_start` (libraries' ends), `engine_end` (what a run
+//! leaves), `engine_config` and `script_text` (configurations), `library_api` and `library_desk` (a library, and
+//! what is shared), `connection_core` (a connection's state, in a proof), `session_core` (names, and how many
+//! sessions), `gate_io` (wire and clock in memory) and `anyhow` (errors). Told in docs/engine.md.
+//!
+//! Read `texts`, `gateway` (engine, wire and clock) and `application` (the library's side); then `answering`
+//! (orders in one thread), `apart` (two threads), `crowd` (many sessions) and `resting` (turns that rest).
 #![tactic(auto)]
 
 ghost use Rattle.std.specs.Prelude.{◌≡◌, ◌<◌, ◌≤◌};

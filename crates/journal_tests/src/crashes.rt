@@ -5,13 +5,13 @@ ghost use Rattle.std.specs.Prelude.{◌≤◌, length};
 ghost use Rattle.durable_journal.specs.Disk.{bytes_of};
 
 use crate::checks::{holds, same, same_at};
-use crate::draw::Draw;
 use crate::encoded::text_of;
 use crate::images::image_at;
 use crate::made::{Batch, LEASES, SESSIONS, count_of, file_of, make, texts_of};
 use crate::reader::{Answer, read};
 use crate::rows::{arrive, bind, leave, logon, put_row};
 use crate::writer::{Writer, records_of};
+use draws::Draw;
 use durable_journal::{MemDisk, recover};
 use std::alloc::{AllocError, Global};
 use std::process::Abort;

@@ -1,6 +1,6 @@
 //! What a crash may leave of a disk, by a plain program that no contract ties to the definition.
 
-use crate::draw::Draw;
+use draws::Draw;
 use durable_journal::{DiskStep, MemDisk};
 use std::alloc::{AllocError, Global};
 

@@ -1,4 +1,14 @@
 //! Tests of the durable journal, by public calls alone.
+//!
+//! Stands on `durable_journal` (what is tried), `session_core` (texts of session messages), `lease_core` (records
+//! and their entries), `gate_io` (bytes, want of memory) and `draws` (numbers that look random). Told in
+//! docs/durable-journal.md.
+//!
+//! Read `rows` (records byte by byte), `fields`, `bodies`, `table` (rows of the format), `runs` (which rows may
+//! follow), `reader` (what a file stands for), `recovering` (answers beside the reader's) and `checks` (comparisons
+//! as calls); then `ranges`, `files` and `damage` (one byte changed); `made` (journals that look random),
+//! `images` (what crashes leave), `encoded` (records as text), `writer` and `crashes`; last `logons`, `disks` (a
+//! file, failing disks) and `limits`.
 #![tactic(auto)]
 
 #[cfg(test)]
@@ -11,8 +21,6 @@ mod crashes;
 mod damage;
 #[cfg(test)]
 mod disks;
-#[cfg(test)]
-mod draw;
 #[cfg(test)]
 mod encoded;
 #[cfg(test)]

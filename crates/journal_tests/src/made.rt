@@ -1,8 +1,8 @@
 //! Journals that look random: batches of rows of several sessions, each of which may stand there.
 
-use crate::draw::Draw;
 use crate::rows::{MOMENT, Row, plain, put_row, put_texts};
 use crate::runs::Run;
+use draws::Draw;
 use std::alloc::{AllocError, Global};
 
 /// Over how many sessions the journals are.

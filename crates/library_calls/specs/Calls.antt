@@ -1,9 +1,8 @@
 -- What a call of a library comes to, with its answer.
 use Rattle.std.specs.Prelude.{◌≡◌, ◌↔◌, ℕ, ◌+◌, ◌<◌, ◌≤◌, List, length, slice_get, Option, None, Some, IsNone, IsSome, Result, Ok, Err, IfOk, IfErr, OnOk, IsErrAnd}
-use Rattle.fix_fields.specs.Fit.{unfit_at}
 use Rattle.lease_words.specs.Answers.{HasLoaded}
 use Rattle.lease_words.specs.declared.item.Sent.{Sent}
-use Rattle.library_api.specs.Causes.{HasLostLease, IsEarly, IsLeaseLost, IsNotYet, IsNothing, IsRefused, IsStale, OfNoLease, OfRefusal}
+use Rattle.library_api.specs.Causes.{HasLostLease, IsNotYet, IsNothing, IsRefused, OfNoLease, OfRefusal}
 use Rattle.library_api.specs.Ends.{seat_after_beat}
 use Rattle.library_api.specs.Known.{Known, after_waiting, held, sends_made, session_at, with_seat}
 use Rattle.library_api.specs.Polls.{HasHold, IsLatest, IsNewLease, LoadsCount, LoadsWord, OnHolding, after_poll, event_of, polled, popped_since, session_of, taken_up}

@@ -1,8 +1,8 @@
 //! Deadlines against a plain scan, over generated calls.
 ghost use Rattle.std.specs.Prelude.{◌≡◌, ◌<◌, length};
 
-use crate::draw::Draw;
 use anyhow::{Result, ensure};
+use draws::Draw;
 use gate_io::NoMemory;
 use library_clock::Deadlines;
 use std::alloc::Global;

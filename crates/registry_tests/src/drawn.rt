@@ -1,10 +1,11 @@
 //! Entries that are read back: which may stand next, as the plain program has it, and what goes on behind them.
 ghost use Rattle.std.specs.Prelude.{◌≡◌, ◌<◌, IfOk, IfSome};
 
-use crate::draw::Draw;
+use crate::draw::{some_library, some_place};
 use crate::plain::{GiveUp, may_follow, state_of};
 use crate::random::{Both, play_drawn};
 use anyhow::{Result, ensure};
+use draws::Draw;
 use gate_io::NoMemory;
 use lease_core::{Entry, Recovery, Registry, Why};
 use std::alloc::Global;
@@ -29,10 +30,14 @@ fn read_back(alloc: Global, limit: u32, entries: &[Entry]) -> Result<Option<Reco
 fn draw_entry(both: &mut Both, draw: &mut Draw) -> Entry {
     let old = both.entries.get(draw.below(64) as usize).copied();
     let (owner, lease) = both.registry.owner();
-    let number = both.registry.series().1.saturating_add(draw.place() % 3);
+    let number = both
+        .registry
+        .series()
+        .1
+        .saturating_add(some_place(draw) % 3);
     match draw.below(12) {
         0 => Entry::Arrive {
-            pos: both.registry.in_len().saturating_add(draw.place() % 2),
+            pos: both.registry.in_len().saturating_add(some_place(draw) % 2),
         },
         1 => Entry::Admin { number },
         2 => Entry::Send {
@@ -45,7 +50,7 @@ fn draw_entry(both: &mut Both, draw: &mut Draw) -> Entry {
             lease,
             library: owner,
             count: both.registry.word().count,
-            heir: draw.library(),
+            heir: some_library(draw),
         },
         4 => Entry::Timeout {
             lease,
@@ -53,14 +58,14 @@ fn draw_entry(both: &mut Both, draw: &mut Draw) -> Entry {
             count: both.registry.word().count,
         },
         5 => Entry::Granted {
-            library: draw.library(),
+            library: some_library(draw),
             nr: 1,
             lease: lease.saturating_add(1),
             from: 0,
             start: both.registry.in_len(),
         },
         6 => Entry::Refused {
-            library: draw.library(),
+            library: some_library(draw),
             nr: 1,
             why: draw_why(both, draw),
         },
@@ -79,7 +84,7 @@ fn draw_why(both: &Both, draw: &mut Draw) -> Why {
         0 => Why::OtherOwner { owner, lease },
         1 => Why::LeasesSpent { lease },
         2 => Why::MissingMessages {
-            asked: draw.place(),
+            asked: some_place(draw),
             logged: both.registry.in_len(),
         },
         _ => match both.registry.reserved() {

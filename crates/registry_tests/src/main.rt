@@ -7,6 +7,14 @@
 //!     entries    drawn entries may stand next where the plain program has it so
 //!     resumes    a registry that is read back in mid-course goes on as the one before
 //!     moments    drawn deadlines come as by a plain scan
+//!
+//! Stands on `lease_core` (the registry and the messages) and `library_clock` (deadlines and silence), which are
+//! tried, `gate_io` (bytes, want of memory), `row_text` (rows), `draws` (numbers that look random) and `anyhow`
+//! (errors). Told in docs/registry-and-leases.md.
+//!
+//! Read `parts` (entries and words as text), `acts` (calls as data), `journal` and `clocks` (steps of rows) and
+//! `rows`; then `messages`, `draw` (places and libraries that look random), `plain` (the plain program), `random`
+//! (drawn calls), `drawn` (drawn entries) and `deadlines`.
 #![tactic(auto)]
 
 mod acts;

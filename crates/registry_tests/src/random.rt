@@ -1,8 +1,9 @@
 //! The registry against the plain program, over generated calls.
 use crate::acts::{Act, Answer, play};
-use crate::draw::Draw;
+use crate::draw::{some_library, some_place};
 use crate::plain::{GiveUp, PlainState, lines_of, state_of, step, word_of};
 use anyhow::{Result, ensure};
+use draws::Draw;
 use lease_core::{Entry, Event, Line, Registry, Reply, Shown, Standing, Why, Word};
 use std::alloc::Global;
 
@@ -152,14 +153,14 @@ impl Both {
         match draw.below(30) {
             0 => Act::Bind(draw.below(3)),
             1 => Act::Leave(draw.below(3)),
-            2 => Act::Plan(draw.place(), draw.place(), draw.place()),
+            2 => Act::Plan(some_place(draw), some_place(draw), some_place(draw)),
             3 => Act::Restart(draw.below(3)),
             4 | 5 => Act::Admin,
             6 | 7 => Act::Lapse,
             8..=12 => Act::Arrive,
-            13..=20 => Act::Request(draw.library(), draw.below(9), draw.place()),
-            21..=23 => Act::Timeout(draw_word(draw, word), draw.place()),
-            _ => Act::Show(draw_word(draw, word), draw.place()),
+            13..=20 => Act::Request(some_library(draw), draw.below(9), some_place(draw)),
+            21..=23 => Act::Timeout(draw_word(draw, word), some_place(draw)),
+            _ => Act::Show(draw_word(draw, word), some_place(draw)),
         }
     }
 }
@@ -167,7 +168,7 @@ impl Both {
 /// A word that may come next.
 fn draw_word(draw: &mut Draw, word: Word) -> Word {
     let owner = match draw.below(3) {
-        0 => draw.library(),
+        0 => some_library(draw),
         _ => word.owner,
     };
     Word {

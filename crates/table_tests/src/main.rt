@@ -6,6 +6,14 @@
 //!     boxes     so do items that own memory
 //!     settled   an engine and a library in threads of their own; once it is settled nothing of it is left
 //!     relay     an engine and four libraries in threads of their own
+//!
+//! Stands on `lease_words` (the lease table) and `ring_links` (rings), which are tried, `lease_core` (words,
+//! registries, limits), `fix_fields` (which bodies are fit), `gate_io` (want of memory), `row_text` (rows),
+//! `draws` (numbers that look random) and `anyhow` (errors). Told in docs/threads.md.
+//!
+//! Read `steps` (the engine's calls), `engine` and `library` (the two sides), `journals`, `making` (a row's table),
+//! `acts`, `calls`, `sides`, `queue` (rings in rows) and `rows`; then, for threads of their own, `draw`, `marks`
+//! (items told apart), `settled`, `relay` and `ring_relay`.
 #![tactic(auto)]
 
 mod acts;

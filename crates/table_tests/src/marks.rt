@@ -1,6 +1,6 @@
 //! Items that can be told apart, and what a library sent and an engine took of them.
 
-use crate::draw::Draw;
+use draws::Draw;
 use lease_words::Item;
 use std::alloc::{AllocError, Global};
 

@@ -3,6 +3,7 @@
 ghost use Rattle.std.specs.Prelude.{◌≡◌, IfSome};
 ghost use Rattle.lease_words.specs.Tokens.{new_library_seats};
 
+use crate::draw::{some_library, some_session};
 use crate::engine::Engine;
 use crate::library::{Library, Sending};
 use crate::marks::{Mark, Sender, Taker, all_are_taken};
@@ -44,7 +45,7 @@ fn go_on(engine: &mut Engine<'_>, taker: &mut Taker, s: u16, word: Word) -> Opti
     drain(engine, taker, s, word.lease)?;
     if !is_active && word.lease < MOST_LEASES {
         taker.end(s, word.count);
-        let library = taker.draw.library();
+        let library = some_library(&mut taker.draw);
         engine.grant(s, library)?;
     }
     Some(())
@@ -74,7 +75,7 @@ fn go_on_long(engine: &mut Engine<'_>, taker: &mut Taker)
     ensures { engine.new.leases ≡ engine.old.leases }
 {
     for _ in 0..MOST {
-        let s = taker.draw.session();
+        let s = some_session(&mut taker.draw);
         if engine_step(engine, taker, s).is_none() {
             break;
         }
@@ -177,7 +178,7 @@ fn send_long(alloc: Global, library: &mut Library<'_>, sender: &mut Sender)
     ensures { library.new.leases ≡ library.old.leases }
 {
     for _ in 0..MOST {
-        let s = sender.draw.session();
+        let s = some_session(&mut sender.draw);
         match library_step(alloc, library, sender, s) {
             Some(true) => {}
             Some(false) => thread::yield_now(),
