@@ -2,6 +2,9 @@
 //!
 //! Without words it audits a small report of its own, and prints the verdict. With the name of a file it
 //! audits the report that the file has, and prints how many nanoseconds that took before the verdict.
+//!
+//! Stands on `journal_audit` (what is measured), `gate_io` (a file that is read whole) and `anyhow` (errors). Told
+//! in docs/measuring.md.
 #![tactic(auto)]
 
 use anyhow::bail;

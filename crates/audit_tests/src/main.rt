@@ -12,6 +12,12 @@
 //! before that line, `cut` takes the line out, and `end` takes it out with all behind it. WANTED is the
 //! line that the audit is to name, or 0 where it is to say yes. Each edit with another verdict is
 //! printed. The program fails where a check fails or a verdict is another.
+//!
+//! Stands on `journal_audit` (what is tried), `row_text` (checks), `draws` (numbers that look random) and `anyhow`
+//! (errors). Told in docs/audit.md.
+//!
+//! Read `verdicts` (what an audit says), `edits` (edits of a report), `texts` (cut off, long, at random) and
+//! `checks`.
 #![tactic(auto)]
 
 mod checks;

@@ -12,6 +12,16 @@
 //!
 //! For each row there is a line with its steps, or with the first that isn't understood or comes to something
 //! else. The program fails if a row has such a step, or if a run isn't told alike.
+//!
+//! Stands on `session_book` and `connection_core`, which are tried, `book_desk` (the book's calls), `session_core`
+//! (routing, acts, causes), `seq_gaps` (numbers), `lease_core` (entries, words, replies), `message_log` (both
+//! logs), `resend_plan` (which bodies are fit), `fix_fields` (fields), `gate_io` (bytes, moments, want of memory),
+//! `row_text` (rows, and texts of messages), `draws` (numbers that look random) and `anyhow` (errors). Told in
+//! docs/sessions.md.
+//!
+//! Read `texts`, `desk` (book and connections), `comings`, `leases` and `facts` (what steps do and ask), `steps`,
+//! `player` and `rows`; then the generated runs: `draw_text` (their messages), `plain_cut`, `plain_text` and
+//! `plain_run` (the plain telling), `comparing`, `tally` and `runs`.
 #![tactic(auto)]
 
 mod comings;

@@ -4,6 +4,9 @@
 //! `cut FILE PIECE` or `read FILE PIECE` it takes the stream from a file, feeds it in pieces of so
 //! many bytes, from 1 to 4,096, reads the fields only for `read`, and prints how many nanoseconds
 //! that took before what it found.
+//!
+//! Stands on `fix_frame` (the cut) and `fix_fields` (the fields), which are measured, `gate_io` (a file that is
+//! read whole) and `anyhow` (errors). Told in docs/measuring.md.
 #![tactic(auto)]
 
 ghost use Rattle.std.specs.Prelude.{◌<◌, ◌≤◌, IfSome, OnOk};

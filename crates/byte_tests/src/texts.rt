@@ -1,4 +1,4 @@
-//! Texts of tests.
+//! Bytes as text, in which `|` stands for SOH.
 
 use std::alloc::{AllocError, Global};
 

@@ -1,4 +1,4 @@
-//! The pump.
+//! The pump: messages of a log pushed to a library from a cursor on.
 ghost use Rattle.std.specs.Prelude.{◌≡◌, ◌+◌, ◌-◌, ◌^◌, ◌<◌, ◌≤◌, ◌∷◌, [], ◌++◌, length, OnErr, IfOk, MatchOption};
 ghost use Rattle.catchup_pump.specs.Pump.{messages_from, message_at, cursor_after, OnLogEnd, OnRingFull, FoundFull};
 

@@ -109,7 +109,8 @@ impl Connection {
         Ok(connection)
     }
 
-    /// Its place in the order of all connections, from 0.
+    /// Its number at the wire, which counts accepted connections from 0 on, and dialled ones from
+    /// `FIRST_DIALLED` on.
     pub fn number(&self) -> u32
         ensures { result ≡ self.now.number }
     {

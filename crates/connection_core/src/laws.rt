@@ -1,4 +1,5 @@
-//! Laws of the definitions. Each is the contract of a function that does nothing.
+//! Laws of one connection: items wait and are written in their order, and the pieces handed out are those of
+//! the cut. Each is the contract of a function that does nothing.
 
 ghost use Rattle.std.specs.Prelude.{◌≡◌, ℕ, ◌+◌, ◌≤◌, List, [], ◌∷◌, ◌++◌, length, take, All};
 ghost use Rattle.fix_frame.specs.Cut.{CutPiece, cut};

@@ -1,4 +1,5 @@
-//! How much is read and written of a connection at once, and how much may wait.
+//! How much is read and written of a connection at once, how much may wait, and how long a Logon may be
+//! wanting.
 
 /// The most bytes that are read of a connection at once: a connection whose pieces were all handed out
 /// has room for them.

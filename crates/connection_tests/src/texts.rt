@@ -1,4 +1,4 @@
-//! Texts in which `|` stands for SOH.
+//! Texts in which `|` stands for SOH, and the moment at which a session's day begins.
 
 /// 2026-01-05 09:30:00.000
 pub const MORNING: u64 = 1_767_605_400_000;

@@ -6,6 +6,17 @@
 //! which come last. What is left of the line is what the step has to come to, as `Debug` prints it where
 //! nothing else is said. For each row there is a line with its steps, or with the first that isn't understood
 //! or comes to something else. The program fails if a row has such a step.
+//!
+//! Stands on `switchboard`, `lease_desk`, `session_desk` and `library_desk`, which are tried, `lease_words`,
+//! `ring_links` and `library_api` (table, rings, libraries' ends), `catchup_pump` (cursors), `library_clock`
+//! (silence), `session_book` and `connection_core` (books and connections), `lease_core` (entries, commands,
+//! notices), `session_core` (names and causes), `fix_fields` (a name's length), `gate_io` (bytes, moments, want of
+//! memory), `library_play` (answers that can be compared), `row_text` (rows, and texts of messages) and `anyhow`
+//! (errors). Told in docs/engine.md.
+//!
+//! Read `texts`, `engine_desk` (the engine's side), `outset` and `making` (how a row begins), `counterparty` and
+//! `engine` (calls, where they can be made); then `comings`, `deeds`, `calls` and `facts` (what steps do and ask),
+//! `steps`, `asks` (requests past the rings), `morning` and `rows`.
 #![tactic(auto)]
 
 mod asks;

@@ -1,4 +1,6 @@
 //! Numbers that look random and are the same in each run, for generated cases of tests.
+//!
+//! Stands on `rand_pcg` (the generator) and `rand_core` (its next word). Told in docs/tests.md.
 #![tactic(auto)]
 
 ghost use Rattle.std.specs.Prelude.{◌<◌};

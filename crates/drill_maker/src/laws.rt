@@ -1,4 +1,4 @@
-//! Laws of the definitions. Each is the contract of a function that does nothing.
+//! Law of drills: a replay can carry each of them out. It is the contract of a function that does nothing.
 
 ghost use Rattle.std.specs.Prelude.{◌≤◌, ℕ, false};
 ghost use Rattle.drill_maker.specs.Drill.{drill_of};

@@ -1,4 +1,5 @@
-//! Laws of the definitions that the contracts of this crate cite. The functions do nothing.
+//! Laws of the journal's file: for which records it stands, what a sync keeps of them, and which texts are
+//! bodies. Each is the contract of a function that does nothing.
 
 ghost use Rattle.std.specs.Prelude.{◌≡◌, ◌<◌, ◌≤◌, ◌^◌, ◌++◌, ℕ, List, length};
 ghost use Rattle.std.specs.List.{AllByRecursion};

@@ -1,4 +1,4 @@
-//! Reading records back.
+//! Records as text: one is written, and they are read back.
 
 ghost use Rattle.std.specs.Prelude.{◌≡◌, ◌≤◌, ◌+◌, ◌<◌, ◌^◌, ◌++◌, [], length, true, false, IfOk, IfSome, IfNone};
 ghost use Rattle.std.specs.Vec.{vec_len, vec_capacity};

@@ -1,4 +1,5 @@
-//! Laws of the definitions. Each is the contract of a function that does nothing.
+//! Laws of engines over turns: what stays of one in order, what is written, and what it leaves. Each is the
+//! contract of a function that does nothing.
 
 ghost use Rattle.std.specs.Prelude.{◌≡◌, ◌<◌, ℕ, List, [], false, length, true};
 ghost use Rattle.engine_end.specs.Finishing.{Finishes, FinishesShort};

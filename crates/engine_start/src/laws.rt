@@ -1,4 +1,5 @@
-//! A law of the definitions, as the contract of a function that does nothing.
+//! Law of journals that are read back: a session can go on behind what a file stands for. It is the contract of
+//! a function that does nothing.
 
 ghost use Rattle.engine_start.specs.Recovered.{JournalsGoOn};
 

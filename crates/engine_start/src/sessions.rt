@@ -1,4 +1,4 @@
-//! The sessions.
+//! The configured sessions, each as it begins.
 
 ghost use Rattle.std.specs.Prelude.{◌≡◌, ◌≤◌, ◌<◌, None, Some, IfOk, IfSome, length};
 ghost use Rattle.engine_config.specs.Config.{AreNames, IsConfig, IsDial, dial_of, names_of};

@@ -9,6 +9,18 @@
 //! the run leaves, as `left` has it. `texts` has the signs that stand for parts of bodies. For each row there
 //! is a line that says how many steps were played, or which step came to something else, and for each check one
 //! that says whether it is as expected. The program fails if a step did, or if a check fails.
+//!
+//! Stands on `engine_loop` (turns), `engine_start` (a start behind records, and libraries' ends) and `engine_end`
+//! (what a run leaves), which are tried, `engine_config` (configurations), `wire_desk` (which connections stay
+//! known), `library_desk` (what is shared), `library_api`, `lease_words` and `library_play` (libraries and their
+//! seats), `lease_core` (entries and records), `session_book` and `connection_core` (records of sessions and
+//! connections), `session_core` (names and causes), `fix_fields` (the longest body), `gate_io` (wire, clock, bytes,
+//! want of memory), `row_text` (rows, checks, texts of messages), `thiserror` and `anyhow` (errors). Told in
+//! docs/engine.md.
+//!
+//! Read `texts`, `told`, `tapped_wire` (the wire), `gateway` (engine, wire and clock), `limits` and `making` (how a
+//! run begins); then `steps`, `libraries`, `facts` and `left` (what is done and asked), `reading`, `playing`,
+//! `following` and `rows`; last `open_journals` and `checks`.
 #![tactic(auto)]
 
 mod checks;

@@ -1,4 +1,4 @@
-//! A step happens.
+//! A step of a row is carried out on the engine, its counterparties and its libraries.
 
 ghost use Rattle.std.specs.Prelude.{◌≡◌, OnOk, false};
 ghost use Rattle.engine_tests.specs.Outside.{IsOver};

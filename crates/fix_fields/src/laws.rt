@@ -1,4 +1,5 @@
-//! Laws of the definitions that the contracts of this crate cite. The functions do nothing.
+//! Laws of fields, timestamps and numbers: what was written is read again, and which texts are bodies. Each is
+//! the contract of a function that does nothing.
 
 ghost use Rattle.fix_fields.specs.Laws.{ReadsAsSpelled, FaultsAsFirst, HasOneOfBoth, HasNoTwo, StampsAsSpelled, MomentsHaveABound, StampsReadAgain, CountsBothWays, NumbersReadAgain, TextsArePlain, TypedTextsAreBodies, ReadableBodiesEnd, FitBodiesAreBodies};
 

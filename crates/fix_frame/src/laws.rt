@@ -1,4 +1,5 @@
-//! Laws of the definitions. Each is the contract of a function that does nothing.
+//! Laws of frames and cuts: which pieces a stream has, told by frames alone, in both directions. Each is the
+//! contract of a function that does nothing.
 
 ghost use Rattle.std.specs.Prelude.{◌≡◌, ℕ, ◌+◌, ◌<◌, ◌≤◌, ◌↔◌, List, [], ◌∷◌, ◌++◌, length, drop, codes, replicate, None, Some};
 ghost use Rattle.fix_frame.specs.Frame.{BeginsFrame, BeginsMissummed, IsBody, IsFrame, IsProperPrefix, IsStray, frame_of};

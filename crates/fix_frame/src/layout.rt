@@ -1,4 +1,4 @@
-//! The fixed parts of a frame, and its checksum.
+//! The fixed parts of a frame, its checksum, and the limits of frames, bodies and cutters.
 
 ghost use Rattle.std.specs.Prelude.{◌≡◌, ◌%◌, sum};
 

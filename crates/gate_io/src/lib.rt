@@ -1,8 +1,24 @@
 //! What the gateway is handed from outside, and the plain values that cross its crates.
 //!
-//! Lists in the fields of public types are `Bytes`, `Label` and `Rows`, so that a contract sees a
-//! list where the code has a vector or a string. A call whose only failure is want of memory
-//! answers `NoMemory`.
+//! `Bytes`, `Label` and `Rows` are lists for the fields of public types: a contract sees a list where the code has
+//! a vector or a string. `NoMemory` is the error of a call whose only failure is want of memory.
+//!
+//! Stands on no other crate. Its rules are told in docs/outside.md.
+//!
+//! Read `lists` (bytes, texts and values in fields) and `no_memory` (the error of want of memory); then the traits
+//! `sources` (bytes to read), `sinks` (bytes to write), `wires` (connections, by their numbers), `dials` (a wire
+//! that also dials), `clocks` (the moment) and `gates` (whether a library may go on). Their forms in memory are
+//! `mem_source`, `mem_sink`, `step_clock` and, for the wire, `places` (scripted places of a write), `mem_link` (one
+//! connection) and `mem_wire` (all of them); the adapters are `file_source`, `std_sink` and `real_clock`; `whole`
+//! (a source or bytes to their end) comes last.
+//!
+//! Clauses to know first:
+//!
+//! - `content` of `Wire::read`: where the wire tells which bytes are left, a read puts the first of them at the
+//!   buffer's front and leaves the others, End comes only with none left, and Blocked and Failed take nothing;
+//! - `cause` of `Wire::write`: Blocked and Failed each come only where their own count of the connection rose, or
+//!   stands at the end of its type;
+//! - `all` of `read_all`: on Ok the bytes are all that were left, where the source tells which those are.
 #![tactic(auto)]
 
 mod clocks;

@@ -1,4 +1,4 @@
-//! Clocks.
+//! A clock that is set, the one of the system, and one that can't be read.
 
 use crate::checks::same;
 use gate_io::{Clock, RealClock, StepClock};

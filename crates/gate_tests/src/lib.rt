@@ -1,4 +1,10 @@
 //! Tests of gate_io by its public calls alone.
+//!
+//! Stands on `gate_io` (all that is tried). Told in docs/tests.md.
+//!
+//! Read `checks` (comparisons as calls) and `open_wire` (a wire with one connection) first; then `clocks`, `files`,
+//! `whole` (sources read whole, and sinks), `wires`, `dials`, `scripted` (failures and blocks) and `refusals`
+//! (memory that is refused).
 #![tactic(auto)]
 
 #[cfg(test)]

@@ -1,5 +1,8 @@
 //! The program `fixgate`: it makes the real objects, calls the top call that its words name, and ends with its
 //! status. Its stored run is the drill of seven rounds.
+//!
+//! Stands on `gateway_run` (the command line and the top calls), `wire_edge` (the wire over TCP) and `gate_io`
+//! (source, sink and clock, and what a gate is). Its rules are told in docs/outside.md and docs/promises.md.
 #![tactic(auto)]
 
 mod yielding;

@@ -3,6 +3,9 @@
 //! Without words it does so on a disk that keeps nothing, and prints what was asked of that. With the
 //! words of a file, of how many records a batch has, and of how many batches there are, it does so on
 //! that file, and prints how many nanoseconds that took.
+//!
+//! Stands on `durable_journal` (what is measured), `session_core` (the text of a Heartbeat), `lease_core` (records
+//! and their entries), `gate_io` (bytes, want of memory) and `anyhow` (errors). Told in docs/durable-journal.md.
 #![tactic(auto)]
 
 ghost use Rattle.std.specs.Prelude.{◌≡◌, None};

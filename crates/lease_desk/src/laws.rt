@@ -1,4 +1,5 @@
-//! Laws of the definitions. Each is the contract of a function that does nothing.
+//! Laws of sessions and the seat at the lease table: journals and seat go on agreeing, whatever happens to
+//! others. Each is the contract of a function that does nothing.
 
 ghost use Rattle.std.specs.Prelude.{◌≡◌, ◌≢◌, ℕ, ◌≤◌, List, Option, false, length};
 ghost use Rattle.lease_core.specs.Lines.{lines_of};

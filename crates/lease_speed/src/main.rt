@@ -2,6 +2,9 @@
 //! of its own, and checks that they come in order. With two arguments as many libraries as the
 //! second says, 1 or 4, send as many items each as the first says, and it prints how many
 //! nanoseconds it took.
+//!
+//! Stands on `lease_words` (the lease table, which is measured), `lease_core` (standings of a lease), `fix_fields`
+//! (which bodies are fit), `gate_io` (bytes) and `anyhow` (errors). Told in docs/threads.md.
 #![tactic(auto)]
 
 ghost use Rattle.std.specs.Prelude.{◌≡◌, ◌<◌, ◌≤◌, IfSome};

@@ -8,8 +8,8 @@ use std::fmt;
 use std::marker::Model;
 
 /// The leases, lanes, published counts and beats that an engine and its libraries share. Each
-/// call takes `&self` and the seat of whoever makes it; none waits, and none but `new` takes
-/// memory.
+/// call takes `&self` and the seat of whoever makes it; none waits, and none but `new` and `resume`
+/// takes memory.
 #[derive(Drop)]
 pub struct Leases {
     pub(crate) table: Table<Option<Item>, View, Shape, OneOwner, Global>,

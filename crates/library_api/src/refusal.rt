@@ -1,4 +1,5 @@
-//! Why a call is refused. The causes of each stand in the order in which they are tried.
+//! Why a call is refused, and what a release that is carried out answers. The causes of each refusal stand in
+//! the order in which they are tried.
 use lease_core::Word;
 
 /// Why a request isn't made.

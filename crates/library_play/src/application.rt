@@ -1,4 +1,4 @@
-//! The library's side.
+//! A library with what it is lent in each call, and its events as values that can be compared.
 
 ghost use Rattle.std.specs.Prelude.{◌≡◌};
 

@@ -2,6 +2,10 @@
 //! rounds in one thread: a message arrives, is pumped, polled, sent back and taken. It checks that
 //! all come in order. With two arguments it does what the first says, `messages` or `rounds`, with
 //! as many messages as the second says, and prints how many nanoseconds that took.
+//!
+//! Stands on `library_api` (the library) and `catchup_pump` (the pump), which are measured, `message_log` (the
+//! inbound log), `ring_links` (rings), `lease_words` (the lease table), `lease_core` (commands and notices),
+//! `gate_io` (bytes, want of memory) and `anyhow` (errors). Told in docs/libraries.md.
 #![tactic(auto)]
 
 ghost use Rattle.std.specs.Prelude.{◌≡◌, ◌<◌, ◌≤◌, IfOk};

@@ -1,4 +1,4 @@
-//! The library's side.
+//! A library that reads what is pumped to it.
 ghost use Rattle.std.specs.Prelude.{◌≡◌};
 
 use gate_io::Bytes;

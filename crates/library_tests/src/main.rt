@@ -17,6 +17,14 @@
 //!
 //! For each row that is as wanted there is a line that says how many steps it has; for one that isn't, a line with
 //! the first step that differs, as wanted and as found. The program fails if a row differs.
+//!
+//! Stands on `catchup_pump` (the pump) and `library_api` (the library), which are tried, `lease_words` (the lease
+//! table), `ring_links` (rings), `message_log` (the inbound log), `lease_core` (commands, notices, words),
+//! `gate_io` (bytes, want of memory), `library_play` (answers that can be compared), `row_text` (rows), `draws`
+//! (numbers that look random) and `anyhow` (errors). Told in docs/libraries.md.
+//!
+//! Read `shared` (what both sides share), `steps` and `engine` (the engine's side), `acts`, `calls`, `pairs` and
+//! `many` (what steps do), `lines` and `rows`; then `meeting` (both sides meet) and `relay` (both in threads).
 #![tactic(auto)]
 
 mod acts;

@@ -3,6 +3,9 @@
 //! Without words it does so with 5,000 entries, and prints what was planned. With the word of a count
 //! it takes so many, and prints for the log and for the `Vec` the nanoseconds of all pushes and of a
 //! plan, and how many items that has.
+//!
+//! Stands on `message_log` (the outbound log) and `resend_plan` (plans), which are measured, `gate_io` (bytes, want
+//! of memory) and `anyhow` (errors). Told in docs/measuring.md.
 #![tactic(auto)]
 
 use anyhow::bail;

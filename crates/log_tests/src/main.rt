@@ -1,13 +1,21 @@
 //! Tests of the logs of a session and of what is sent again, by public calls alone: rows worked by hand, and
 //! generated logs beside plain lists, which no clause ties to the definitions.
 //!
-//! Each argument names a file of rows (`row_text`). A row is played on logs of its own, on which nothing is yet.
-//! A step is a line of words, of which the first says what is done (`acts.rt`) or asked (`facts.rt`). What is left of
-//! the line is what the step has to come to, as `Debug` prints it where nothing else is said. In a body `|`
-//! stands for SOH.
+//! Each argument names a file of rows (`row_text`). A row is played on logs of its own, on which nothing is yet. A
+//! step is a line of words, of which the first says what is done (`acts.rt`) or asked (`facts.rt`). What is left of
+//! the line is what the step has to come to, as `Debug` prints it where nothing else is said. In a body `|` stands
+//! for SOH.
 //!
 //! For each row there is a line with its steps, or with the first that isn't understood or comes to something
 //! else. The program fails if a row has such a step.
+//!
+//! Stands on `message_log` (both logs) and `resend_plan` (plans, and the text of an item), which are tried,
+//! `fix_frame` (frames), `gate_io` (bytes, want of memory), `row_text` (rows, and texts of messages), `draws`
+//! (numbers that look random) and `anyhow` (errors). Told in docs/logs-and-resends.md.
+//!
+//! Read `texts`, `both` (a log beside plain lists), `desk` (the logs of a row), `items` (text and frame) and
+//! `plain` (look-ups in plain lists); then `alike` and `plans` (comparisons with those), `acts`, `facts` and
+//! `rows`.
 #![tactic(auto)]
 
 mod acts;

@@ -1,4 +1,4 @@
-//! The report.
+//! The report of all that a run has, line by line.
 
 use crate::links::Link;
 use crate::sessions::Session;

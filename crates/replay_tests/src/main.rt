@@ -3,8 +3,8 @@
 //!
 //! An argument is the name of a row, or a word:
 //!
-//!     checks     tries what no row shows: inputs that end at each byte, reads that fail in each turn, drills beside
-//!                their lines, long drills
+//!     checks     tries what no row shows: inputs that end at each byte, reads that fail in each turn, drills
+//!                beside their lines, long drills
 //!     made N     makes N scripts at random, and compares the report of each with what is told plainly
 //!
 //! The row NAME stands for the files NAME.script and NAME.report: the first is carried out, and its report compared
@@ -12,6 +12,15 @@
 //! audit. For each row there is a line that says whether all this is so, or the first line at which a report
 //! differs, as expected and as it is. The program fails where one differs or isn't right, where a check fails, or
 //! where no made script's report has a line of some kind.
+//!
+//! Stands on `script_run` (what carries a script out), `run_report` (reports and summaries), `drill_maker` (drills)
+//! and `script_text` (scripts and their faults), which are tried, `plain_replay` (the plain telling),
+//! `journal_audit` (the audit), `connection_core`, `session_core` and `lease_core` (records of connections, causes,
+//! holdings), `row_text` (checks), `draws` (numbers that look random) and `anyhow` (errors). Told in docs/tests.md.
+//!
+//! Read `reports` (what a script leaves), `differences` and `rows`; then the checks: `orders` and `cuts`, `morning`
+//! and `read_faults`, `faults`, `slow_consumers`, `drills`, `one_round`, `drill_lines`, `drill_scripts` and
+//! `checks`; last made scripts: `maker`, `traffic` and `calls` (their lines), `kinds` and `made`.
 #![tactic(auto)]
 
 mod calls;

@@ -1,4 +1,4 @@
-//! What waits to be written, and the limits of what stands before a body.
+//! What waits to be written, a session's CompIDs, and the limits of what stands before a body.
 
 use gate_io::Bytes;
 

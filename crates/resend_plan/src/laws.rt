@@ -1,4 +1,5 @@
-//! Laws of the definitions. Each is the contract of a function that does nothing.
+//! Laws of items, plans and texts: what an item names stays, a plan answers its range, and texts are bodies.
+//! Each is the contract of a function that does nothing.
 
 ghost use Rattle.std.specs.Prelude.{◌≡◌, ℕ, ◌≤◌, ◌↔◌, List, [], ◌∷◌, ◌++◌, length, map, flat_map, All};
 ghost use Rattle.fix_frame.specs.Frame.{IsBody, frame_of};

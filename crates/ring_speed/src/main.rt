@@ -1,6 +1,8 @@
 //! Moves numbers from one thread to another through a ring of 256, and checks that they come in
 //! order. With an argument it moves as many numbers as that says, and prints how many
 //! nanoseconds it took.
+//!
+//! Stands on `ring_links` (the ring, which is measured) and `anyhow` (errors). Told in docs/threads.md.
 #![tactic(auto)]
 
 ghost use Rattle.std.specs.Prelude.{◌≡◌};

@@ -1,4 +1,4 @@
-//! Checks that a program makes by itself, and how it tells them.
+//! Checks that a program makes by itself, how it tells them, and the comparisons that they make.
 
 ghost use Rattle.std.specs.Prelude.{◌≡◌, ◌≤◌, ◌<◌, IfOk, IsErr, true};
 

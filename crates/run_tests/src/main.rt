@@ -1,8 +1,14 @@
-//! Tests of `replay` by the public calls of gateway_run alone: whole scripts with their whole reports, every status,
-//! and the commands that words give.
+//! Tests of `replay` by the public calls of gateway_run alone: whole scripts with their whole reports, faults, the
+//! line of every status, and the commands that words give.
 //!
 //! The program makes its checks, with a line for each, and then does what its arguments say, as `fixgate` without
 //! `serve` does. It fails where a check fails.
+//!
+//! Stands on `gateway_run` (what is tried), `script_text` (kinds of faults), `gate_io` (source and sink in memory),
+//! `row_text` (checks) and `anyhow` (errors). Told in docs/tests.md.
+//!
+//! Read `replayed` (replays in memory), `rows` (scripts with their reports), `reports`, `faults`, `statuses`,
+//! `words`, `commands` and `checks`.
 #![tactic(auto)]
 
 mod checks;

@@ -1,4 +1,4 @@
-//! The lines of `replay`. `next` has the numbers of the next connections.
+//! The lines of `replay` for the clock, the wire and turns of the engine.
 
 ghost use Rattle.std.specs.Prelude.{◌≡◌, IfOk};
 ghost use Rattle.script_text.specs.Grammar.{bytes_line, connect_line, connection_line, connection_and_number_line, event_line, frame_line, moment_line, take_line};

@@ -1,4 +1,5 @@
-//! Laws of the definitions that the contracts of this crate cite. The functions do nothing.
+//! Laws of scripts as text: printed bytes are read again, and the first fault is the one that is told. Each is
+//! the contract of a function that does nothing.
 
 ghost use Rattle.script_text.specs.Laws.{FaultsAreFirst, LongTextsAreLineZero, PrintedTextsArePrintable, PrintedTextsReadAgain, ScriptsAreRead, TextsAreCutIntoLines};
 

@@ -1,4 +1,4 @@
-//! What a script says is to happen.
+//! A script as it was read: its configuration, and what is to happen, with the numbers of their lines.
 
 use engine_config::Config;
 use gate_io::{Bytes, Rows};

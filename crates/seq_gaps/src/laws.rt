@@ -1,4 +1,5 @@
-//! Laws of the definitions that the contracts of this crate cite. The functions do nothing.
+//! Laws of the number line: what it holds, how much, and which number it expects behind each call. Each is the
+//! contract of a function that does nothing.
 
 ghost use Rattle.seq_gaps.specs.Laws.{LinesStayLines, HeldItems, HeldCounts, ExpectedNumbers};
 

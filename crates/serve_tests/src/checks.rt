@@ -24,7 +24,7 @@ pub(crate) fn tell_all(
     Ok(())
 }
 
-/// Every status that a run may have.
+/// How a run ends: its statuses, but for those of a source that fails and of want of memory.
 fn tell_statuses(
     rt: &(impl Runtime + Threads + Sync),
     alloc: Global,

@@ -1,4 +1,5 @@
-//! Laws of the definitions that the contracts of this crate cite. The functions do nothing.
+//! Laws of the session machine: its states, its acts and their texts, and its runs over messages. Each is the
+//! contract of a function that does nothing.
 
 ghost use Rattle.session_core.specs.Laws.{StatesStayLawful, ExpectedIsCarriedOut, ActsOfMessages, ActsOfTicks, OnlyLogonsReset, PhasesFollow, TextsOfMessages, SamenessLaws, MomentsDontMatter, RunsFollowBodies, RunsInParts, HandledInParts, LeavesNoneReady, NumbersGoForward, RisesByWhatIsHeld, HandlesWhatCameFirst};
 ghost use Rattle.session_core.specs.Lines.{LineLaws};

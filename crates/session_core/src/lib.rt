@@ -3,6 +3,26 @@
 //!
 //! FIX 4.4, volume 2, "Session Protocol". The machine sends nothing itself: it takes bodies and
 //! moments, and answers with acts, in order, and with the cause by which a connection ends.
+//!
+//! Stands on `gate_io` (lists in fields, the last moment, the error of want of memory), `fix_fields` (fields and
+//! numbers read, fields written), `seq_gaps` (the number line) and `itoa` (numbers in decimal digits). Its rules
+//! are told in docs/session-protocol.md.
+//!
+//! Read `names` (the two CompIDs), `causes` (why a connection ends), `acts` (what the machine answers), `phases`
+//! (how far the Logons came), `tasks` (what is left to do) and `ticks` (what the clock asks); then `said` (what
+//! fields say), `routing` (the first message), `replies` (what session messages ask for), `steps` (which rule
+//! applies) and `reading` (a body read once); then `inbound` (the number line with tasks), `carry` (a step carried
+//! out), `logons` (Logons that bind or answer), `session` (the machine itself) and `admin_text` (bodies of session
+//! messages); last `laws` (of the definitions).
+//!
+//! Clauses to know first:
+//!
+//! - `effects` of `Session::receive`: on Ok the acts and the end are exactly those that the rules give for this
+//!   session and this body;
+//! - `effects` of `Session::tick`: on Ok the acts and the end are exactly those that the clock's rules give for
+//!   this session at this moment: nothing, a Heartbeat, a TestRequest, or the end as Silent;
+//! - `state` of `Session::expected`: what holds of every session, among others that the expected number is never
+//!   held, and that nothing is held before a Logon is answered.
 #![tactic(auto)]
 
 mod acts;

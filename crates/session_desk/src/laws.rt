@@ -1,4 +1,5 @@
-//! Laws of the definitions. Each is the contract of a function that does nothing.
+//! Laws of what sessions do in a turn: all go on, and no connection comes. Each is the contract of a function
+//! that does nothing.
 
 ghost use Rattle.std.specs.Prelude.{◌≡◌, ℕ, List, Option, Result, false, length, true};
 ghost use Rattle.lease_core.specs.declared.entry.Entry.{Entry};

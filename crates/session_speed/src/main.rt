@@ -3,6 +3,13 @@
 //! written. It checks that each order is logged and each report written. With two arguments it does so
 //! with as many orders as the first says, behind as many others as the second says, and prints how many
 //! nanoseconds it took.
+//!
+//! Stands on `switchboard`, `session_book` and `connection_core`, which are measured, `book_desk` (when a word may
+//! be shown), `session_core` (routing, names, causes), `lease_core` (words and replies), `resend_plan` and
+//! `fix_frame` (which bodies are fit), `fix_fields` (fields), `gate_io` (bytes, want of memory) and `anyhow`
+//! (errors). Told in docs/sessions.md.
+//!
+//! Read `texts` (what both sides say), `trouble` (why no answer comes) and `market` (an order's steps).
 #![tactic(auto)]
 
 ghost use Rattle.std.specs.Prelude.{OnOk};

@@ -27,6 +27,15 @@
 //!
 //! For each row there is a line with its steps, or with the first that isn't understood or comes to something
 //! else. The program fails if a row has such a step, or if a run isn't told alike.
+//!
+//! Stands on `session_core` (the session machine) and `seq_gaps` (the number line), which are tried, `fix_fields`
+//! (fields and numbers), `gate_io` (bytes, want of memory, the last moment), `row_text` (rows, and texts of
+//! messages), `draws` (numbers that look random), `thiserror` and `anyhow` (errors). Told in
+//! docs/session-protocol.md.
+//!
+//! Read `texts`, `desk` (a session at its clock), `acts`, `calls` and `routes` (what steps do), `steps` and `rows`;
+//! then the generated runs: `draw_text` (their texts), `unlike` (how they differ), `plain_line` with `line_runs`,
+//! and `plain_session` with `session_runs`.
 #![tactic(auto)]
 
 mod acts;

@@ -1,4 +1,5 @@
-//! Laws of the definitions. Each is the contract of a function that does nothing.
+//! Laws of connections at the wire: places stay apart and in order, and what is written begins the outbound
+//! texts. Each is the contract of a function that does nothing.
 
 ghost use Rattle.std.specs.Prelude.{◌≡◌, ◌+◌, ◌<◌, ◌≤◌, ◌++◌, ◌∷◌, [], ℕ, List, Option, false, true, length, None};
 ghost use Rattle.connection_core.specs.Connection.{ConnectionState, room};

@@ -1,4 +1,4 @@
-//! How often each answer came.
+//! How often a call of a connection failed, was blocked or found the end.
 
 ghost use Rattle.std.specs.Prelude.{◌≡◌, true};
 ghost use Rattle.gate_io.specs.Wire.{LinkGoesOn};
