@@ -1,2 +1,3 @@
 pub mod Outset
 pub mod Running
+pub mod Begin

@@ -2,13 +2,14 @@
 
 ghost use Rattle.std.specs.Prelude.{◌≡◌, ◌+◌, ◌<◌, ◌≤◌, [], None, Some, IfOk, IfSome, OnOk, length, map};
 ghost use Rattle.desk_tests.specs.Outset.{AreEnds, IsFresh, dialler_of, outset_shape};
+ghost use Rattle.desk_tests.specs.Begin.{AreForTwo, IsOutset, IsOutsetTable};
 ghost use Rattle.desk_tests.specs.Running.{IsRunning};
 ghost use Rattle.lease_core.specs.declared.limits.TheConstants.{MOST_LEASES};
 ghost use Rattle.lease_words.specs.Tokens.{new_engine_seat};
 ghost use Rattle.library_desk.specs.declared.ends.EngineEnds.{EngineEnds};
 ghost use Rattle.session_core.specs.State.{IsDialHeart};
 ghost use Rattle.session_desk.specs.Steps.{AreNoted, AreRoutes};
-ghost use Rattle.switchboard.specs.Board.{book_at};
+ghost use Rattle.switchboard.specs.Board.{Board, book_at};
 ghost use Rattle.switchboard.specs.Sound.{bound_of};
 
 use crate::engine_desk::EngineDesk;
@@ -20,7 +21,7 @@ use fix_fields::LONGEST_NAME;
 use gate_io::{Bytes, NoMemory};
 use lease_core::{Command, Notice};
 use lease_desk::LeaseDesk;
-use lease_words::{EngineSeat, LANE_SLOTS, Leases};
+use lease_words::{EngineSeat, LANE_SLOTS, Leases, LibrarySeat};
 use library_api::LibraryEnds2;
 use library_clock::Watch;
 use library_desk::{EngineEnds, LibraryDesk, Shared};
@@ -78,44 +79,129 @@ struct Rings {
     ghost library_head: { head.ring ≡ notices },
 }
 
-/// A table and rings as the outset says, with sessions that nobody has yet, and their two sides.
+/// The table, with the engine's seat and those of the two libraries.
+#[derive(Drop)]
+struct Table {
+    leases: Leases,
+    seat: EngineSeat,
+    first: LibrarySeat,
+    second: LibrarySeat,
+}
+
+/// The sessions as a row begins, with what the engine keeps of them and of its libraries.
+#[derive(Drop)]
+struct Sessions {
+    board: Switchboard,
+    routes: Routes,
+    unkept: Vec<Unkept>,
+    watch: Watch,
+    cursors: Vec<Cursor>,
+}
+
+/// Room for the rings of the two libraries, and for the engine's ends of them.
+#[derive(Drop)]
+struct Lists {
+    commands: Vec<Ring<Command>>,
+    notices: Vec<Ring<Notice>>,
+    ends: Vec<EngineEnds>,
+}
+
+/// A table and rings as the outset says, with sessions that nobody has yet, and their two sides. All that wants memory
+/// comes first, each part by a call of its own: so little is to be let go where one is refused.
 pub fn make(alloc: Global, outset: Outset) -> Result<(Shared, Sides)>
     ensures running { IfOk result (λ made. IsRunning made.0 made.1.desk) }
     ensures first { IfOk result (λ made. AreEnds made.0 0 made.1.first) }
     ensures second { IfOk result (λ made. AreEnds made.0 1 made.1.second) }
 {
-    let (leases, seat, seats) = Leases::new(alloc, 2, LIBRARIES, DEPTH, SENDS)?;
-    let mut seats = seats.into_iter();
-    let first_seat = seats.next().context("a seat")?;
-    let second_seat = seats.next().context("a seat")?;
+    let dials = heart_of(outset.is_dialling);
+    let lists = make_lists(alloc)?;
     let first = make_rings(alloc, outset.notices)?;
     let second = make_rings(alloc, outset.notices)?;
+    let table = make_table(alloc)?;
+    let sessions = make_sessions(alloc, dials)?;
+    Ok(put_together(alloc, lists, first, second, table, sessions, dials))
+}
+
+// The two sides of their parts.
+fn put_together(
+    alloc: Global,
+    lists: Lists,
+    first: Rings,
+    second: Rings,
+    table: Table,
+    sessions: Sessions,
+    dials: Option<u32>,
+) -> (Shared, Sides)
+    requires dials { IfSome dials IsDialHeart }
+    requires lists { AreForTwo lists }
+    requires table { IsOutsetTable table }
+    requires sessions { IsOutset dials sessions }
+    ensures running { IsRunning result.0 result.1.desk }
+    ensures first { AreEnds result.0 0 result.1.first }
+    ensures second { AreEnds result.0 1 result.1.second }
+{
+    let Lists {
+        mut commands,
+        mut notices,
+        mut ends,
+    } = lists;
+    commands.push(first.commands).unwrap();
+    commands.push(second.commands).unwrap();
+    notices.push(first.notices).unwrap();
+    notices.push(second.notices).unwrap();
+    ends.push(first.engine).unwrap();
+    ends.push(second.engine).unwrap();
     let shared = Shared {
-        leases,
-        commands: Vec::from_array(alloc, [first.commands, second.commands])?,
-        notices: Vec::from_array(alloc, [first.notices, second.notices])?,
-    };
-    let ends = Vec::from_array(alloc, [first.engine, second.engine])?;
-    let dials = heart_of(outset.is_dialling);
-    let desk = engine_desk(alloc, &shared, seat, ends, dials)?;
-    let first = LibraryEnds2 {
-        number: first_seat.number(),
-        seat: first_seat,
-        tail: first.tail,
-        head: first.head,
-    };
-    let second = LibraryEnds2 {
-        number: second_seat.number(),
-        seat: second_seat,
-        tail: second.tail,
-        head: second.head,
+        leases: table.leases,
+        commands,
+        notices,
     };
     let sides = Sides {
-        desk,
+        desk: engine_desk(alloc, &shared, table.seat, ends, sessions, dials),
+        first: library_ends(table.first, first.tail, first.head),
+        second: library_ends(table.second, second.tail, second.head),
+    };
+    (shared, sides)
+}
+
+fn make_lists(alloc: Global) -> Result<Lists, NoMemory>
+    ensures { IfOk result AreForTwo }
+{
+    Ok(Lists {
+        commands: Vec::with_capacity(alloc, 2)?,
+        notices: Vec::with_capacity(alloc, 2)?,
+        ends: Vec::with_capacity(alloc, 2)?,
+    })
+}
+
+// A library's end of the table and of its rings.
+fn library_ends(seat: LibrarySeat, tail: Tail<Command>, head: Head<Notice>) -> LibraryEnds2
+    ensures seat { result.seat ≡ seat }
+    ensures tail { result.tail ≡ tail }
+    ensures head { result.head ≡ head }
+{
+    LibraryEnds2 {
+        number: seat.number(),
+        seat,
+        tail,
+        head,
+    }
+}
+
+// A table for two sessions and two libraries, before which nothing was.
+fn make_table(alloc: Global) -> Result<Table>
+    ensures { IfOk result IsOutsetTable }
+{
+    let (leases, seat, seats) = Leases::new(alloc, 2, LIBRARIES, DEPTH, SENDS)?;
+    let mut seats = seats.into_iter();
+    let first = seats.next().context("a seat")?;
+    let second = seats.next().context("a seat")?;
+    Ok(Table {
+        leases,
+        seat,
         first,
         second,
-    };
-    Ok((shared, sides))
+    })
 }
 
 // The HeartBtInt of the second session, if that dials.
@@ -131,8 +217,9 @@ fn engine_desk(
     _shared: &Shared,
     seat: EngineSeat,
     ends: Vec<EngineEnds>,
+    sessions: Sessions,
     dials: Option<u32>,
-) -> Result<EngineDesk, NoMemory>
+) -> EngineDesk
     requires dials { IfSome dials IsDialHeart }
     requires shape { _shared.now.leases.shape ≡ outset_shape _shared.now.leases.shape.depth _shared.now.leases.shape.sends }
     requires depth { _shared.now.leases.shape.depth ≤ LANE_SLOTS }
@@ -140,14 +227,17 @@ fn engine_desk(
     requires count { length ends.items ≡ 2 }
     requires commands { map (λ (e : EngineEnds). e.head.ring) ends.items ≡ _shared.now.commands.items }
     requires notices { map (λ (e : EngineEnds). e.tail.ring) ends.items ≡ _shared.now.notices.items }
-    ensures { IfOk result (IsRunning _shared.now) }
+    requires sessions { IsOutset dials sessions }
+    ensures { IsRunning _shared.now result }
 {
     boards_stay_ready();
-    let board = board(alloc, dials)?;
-    let routes = routes(alloc, &board, dials)?;
-    let unkept = unkept(alloc, &board)?;
-    let watch = Watch::new(alloc, LIBRARIES, TIMEOUT, T)?;
-    let cursors = Vec::from_array(alloc, [cursor(0), cursor(1)])?;
+    let Sessions {
+        board,
+        routes,
+        unkept,
+        watch,
+        cursors,
+    } = sessions;
     let desk = LeaseDesk::new(alloc, board, seat);
     let libraries = LibraryDesk {
         desk,
@@ -156,11 +246,30 @@ fn engine_desk(
         cursors,
         strays: Vec::new(alloc),
     };
-    Ok(EngineDesk {
+    EngineDesk {
         libraries,
         routes,
         unkept,
         dialler: dialler(dials),
+    }
+}
+
+// The sessions of a row, before they have a seat at the table.
+fn make_sessions(alloc: Global, dials: Option<u32>) -> Result<Sessions, NoMemory>
+    requires { IfSome dials IsDialHeart }
+    ensures { IfOk result (IsOutset dials) }
+{
+    let watch = Watch::new(alloc, LIBRARIES, TIMEOUT, T)?;
+    let cursors = Vec::from_array(alloc, [cursor(0), cursor(1)])?;
+    let unkept = unkept(alloc)?;
+    let board = board(alloc, dials)?;
+    let routes = routes(alloc, &board, dials)?;
+    Ok(Sessions {
+        board,
+        routes,
+        unkept,
+        watch,
+        cursors,
     })
 }
 
@@ -196,8 +305,8 @@ fn board(alloc: Global, dials: Option<u32>) -> Result<Switchboard, NoMemory>
     boards_stay_ready();
     let mut board = Switchboard::new(alloc);
     let first = session(alloc, b"BUYER", None)?;
-    let second = session(alloc, b"SELLER", dials)?;
     board.add(first)?;
+    let second = session(alloc, b"SELLER", dials)?;
     board.add(second)?;
     Ok(board)
 }
@@ -305,10 +414,9 @@ fn copy(alloc: Global, names: &Names) -> Result<Names, NoMemory>
     })
 }
 
-// Nothing was noted of the two sessions.
-fn unkept(alloc: Global, board: &Switchboard) -> Result<Vec<Unkept>, NoMemory>
-    requires { length board.now.sessions ≡ 2 }
-    ensures { IfOk result (λ unkept. AreNoted unkept.items board.now) }
+// Nothing was noted of two sessions.
+fn unkept(alloc: Global) -> Result<Vec<Unkept>, NoMemory>
+    ensures { IfOk result (λ unkept. (board : Board) → length board.sessions ≡ 2 → AreNoted unkept.items board) }
 {
     let unkept = Vec::from_array(alloc, [Unkept::new(alloc, 0), Unkept::new(alloc, 0)])?;
     Ok(unkept)
