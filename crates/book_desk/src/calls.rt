@@ -224,7 +224,7 @@ pub fn time_out(
     book.time_out(alloc, old, bodies, at, until, out)
 }
 
-/// Makes the texts of what waits until so many bytes are there.
+/// Makes texts of what waits, as `Connection::prepare` does.
 pub fn prepare(
     book: &SessionBook,
     connection: &mut Connection,

@@ -1,6 +1,7 @@
 //! Where a pump stands, and how far it came.
 
-/// The next position of a session's log that goes to the library with a lease.
+/// Where a pump stands in the inbound log of session `s`, for the library with that lease: `at` is
+/// the position of the message that goes to it next, and the log's length where none is left.
 #[derive(Clone, Copy, Debug, PartialEq, Eq)]
 pub struct Cursor {
     pub s: u16,

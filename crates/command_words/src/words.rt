@@ -30,7 +30,7 @@ pub enum Chosen {
     Drill {
         n: u32,
     },
-    /// Carry out the script in this file over connections to the address, for at most so many turns.
+    /// Serve the script in this file, listening at the address, for at most so many turns.
     Serve {
         path: Label,
         address: Label,

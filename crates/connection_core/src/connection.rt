@@ -89,7 +89,7 @@ impl Connection {
     }
 
     /// A connection that was dialled for a session, with its number and the moment of the dial in
-    /// milliseconds. Its first item is the Logon.
+    /// milliseconds. Its first item is to be the Logon.
     pub fn dialled(
         alloc: Global,
         number: u32,

@@ -20,8 +20,8 @@ use std::marker::Model;
 /// The items that wait on a connection, in order, and the text of those that are about to be
 /// written. The text that was written stays, since it is the record of that.
 ///
-/// An item names its entry in the session's log. The log only grows, so the item's text is the same
-/// whenever it is made.
+/// An item names its entry in the session's log, or is a gap fill, which names none. The log only
+/// grows, so the item's text is the same whenever it is made.
 #[derive(Debug, Drop)]
 pub struct Outbox {
     text: Vec<u8>,
@@ -64,7 +64,8 @@ impl Outbox {
         }
     }
 
-    /// Makes room for n more items.
+    /// Makes room for n more items to be queued. It makes none for their texts, which take memory
+    /// as they are made. Without memory all that waits stays.
     pub fn reserve(&mut self, n: usize) -> Result<(), NoMemory>
         ensures outgoing { self.new.outgoing ≡ self.old.outgoing }
         ensures room { OnOk result (n ≤ self.new.spare) }

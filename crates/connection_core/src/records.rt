@@ -10,7 +10,7 @@ pub struct ConnRecord {
     pub session: Option<u16>,
     /// All bytes that were read.
     pub taken: Bytes,
-    /// How many of them were garbled, before the message that ended the connection.
+    /// How many of them were garbled, in the pieces that were handed out.
     pub garbled: u64,
     /// All bytes that the connection took.
     pub written: Bytes,

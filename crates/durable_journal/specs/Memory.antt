@@ -6,7 +6,7 @@ use Rattle.durable_journal.specs.declared.memory.DiskStep.{DiskStep}
 use Rattle.durable_journal.specs.declared.memory.DiskStep.TheVariants.{Wrote, Synced}
 use Rattle.durable_journal.specs.Disk.{Step, Write, Sync, History, bytes_after}
 
--- What was done with it, how many bytes more it takes, how many calls more it records, which calls fail, and what was counted.
+-- What was done with it, for how many bytes and calls more it has room, which calls fail, and how many were made and failed.
 pub record MemoryState : Type 0 where
   pub history : History
   pub room : ℕ
@@ -34,7 +34,7 @@ abbrev pub written_in : List DiskStep → ℕ
 written_in [] = 0
 written_in (row ∷ rows) = written_by row + written_in rows
 
--- the next call is one of those that fail, or no call more is recorded
+-- the next call is one of those that fail, or there is no room for it
 abbrev pub fails_now : MemoryState → Bool
 fails_now s = list_any (λ call. call == s.calls) s.fails || (s.spare == 0)
 
@@ -48,11 +48,12 @@ after_fault s = record (after_call s) { faults = one_more s.faults }
 abbrev pub with_step : Step → MemoryState → MemoryState
 with_step step s = record s { history = record { first = s.history.first; steps = step ∷ s.history.steps } }
 
--- nor is there room for so many bytes
+-- or there is no room for so many bytes
 abbrev pub fails_to_write : MemoryState → ℕ → Bool
 fails_to_write s size = fails_now s || nat_lt s.room size
 
--- A write that is listed as failing wrote nothing, and one past the calls or the bytes isn't recorded.
+-- A write for which there is no call left isn't recorded. One that is listed as failing is, with no bytes. One that isn't
+-- listed, and for which there are too few bytes left, isn't recorded.
 abbrev pub after_write : MemoryState → ℕ → List ℕ → MemoryState
 after_write s at piece =
     if s.spare == 0 then after_fault s
@@ -60,7 +61,7 @@ after_write s at piece =
     else (if nat_lt s.room (length piece) then after_fault s
     else with_step (Write at (length piece) piece) (record (after_call s) { room = s.room - length piece })))
 
--- the bytes are read as the steps left them, and there is room for what is still taken
+-- the bytes are those that the recorded steps leave of the first ones, and as many written bytes are kept as the steps wrote
 pub record IsMemory (first bytes written : List ℕ) (rows : List DiskStep) : Type 0 where
   pub bytes_are : bytes ≡ bytes_after first (steps_of [] rows written)
   pub written_are : length written ≡ written_in rows

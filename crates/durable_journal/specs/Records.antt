@@ -62,7 +62,8 @@ pub record IsShortText (text : List ℕ) : Type 0 where
   pub plain : IsPlain text
   pub short : length text ≤ LONGEST_TEXT
 
--- a session message with numbers and texts that can be
+-- a session message whose numbers are in their types; a Heartbeat's or Logout's text, if it has one, is
+-- such a short one, and a Reject's type is plain, of any length
 abbrev pub IsPlainAdmin : admins.Admin → Type 0
 IsPlainAdmin (Logon heart reset) = heart < 2 ^ 32
 IsPlainAdmin (Heartbeat None) = Unit {0}

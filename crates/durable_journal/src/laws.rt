@@ -34,18 +34,22 @@ pub fn beginnings_are_runs()
 {}
 
 /// The text of each session message whose numbers are in their types, and whose texts aren't empty and
-/// have no SOH, is the body of an Admin's record.
+/// have no SOH, that of a Heartbeat or a Logout with at most `LONGEST_TEXT` bytes, is the body of an
+/// Admin's record under its number.
 pub fn session_texts_are_bodies()
     ensures { (admin : Admin) (number : ℕ) → IsPlainAdmin admin → IsAdminBody number (admin_text admin number) }
 {}
 
-/// And it is short, as each body of such a record.
+/// And under a number of 64 bits it has at most `LONGEST_ADMIN` bytes.
 #[tactic(auto, using(crate::proofs::Short::text_is_short))]
 pub fn session_texts_are_short()
     ensures { (admin : Admin) (number : ℕ) → IsPlainAdmin admin → number < 2 ^ 64 → length (admin_text admin number) ≤ LONGEST_ADMIN }
 {}
 
-/// The texts with which the session machine answers a message are ones that can be.
+/// These answers to a message have such numbers and texts: a Reject of one whose fields can be read, with
+/// a type (35) among them and a number of 32 bits, for a tag of 32 bits and a reason of 8; the answer to
+/// such a message as a TestRequest; the Logout of a low number, where it and the expected one are of 64
+/// bits; and that of a missing one.
 pub fn answers_are_plain()
     ensures { AnswersArePlain }
 {

@@ -20,10 +20,12 @@ pub enum DiskStep {
     Synced,
 }
 
-/// A disk in memory. It records each write and each sync with the bytes that were written, and so
-/// answers for what a crash at any moment leaves. It fails at the calls that it is told, and past
-/// the number of calls and of bytes for which it has room; a write that fails writes nothing, and
-/// a crash may leave anything in its range all the same.
+/// A disk in memory. It records each write and each sync that succeeds, with the bytes that were
+/// written, and so answers for what a crash at any moment leaves. A call fails where it is one of
+/// those that are listed to fail or no room is left for a call, and a write also where it has more
+/// bytes than there is room for. A write that fails writes nothing. One that is listed, with room for
+/// the call, is recorded all the same, with no bytes: a crash may leave anything in its range. No
+/// other call that fails is recorded: a crash leaves what it could leave before it.
 #[derive(Debug, Drop)]
 pub struct MemDisk {
     first: Vec<u8>,
@@ -50,8 +52,9 @@ impl Model for MemDisk {
 }
 
 impl MemDisk {
-    /// A disk on which these bytes are. It takes `room` more bytes in all, in at most `calls`
-    /// calls. `fails` lists the calls, counted from 0, that fail.
+    /// A disk on which these bytes are. It has room for `calls` calls of any kind, those that fail
+    /// among them, and its writes take `room` bytes in all. `fails` lists the calls, counted from 0,
+    /// that fail.
     pub fn new(
         alloc: Global,
         bytes: Vec<u8>,

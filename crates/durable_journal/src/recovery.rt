@@ -33,7 +33,8 @@ struct Found {
 /// Reads the file back, over which the journal has these numbers of sessions and of leases a
 /// session, and gives the journal that goes on behind its records, with all of these. A file of at
 /// most one byte is given a closed gate. Whatever bytes the disk has, one of the answers below
-/// comes; after an error the disk is handed back, and its bytes are as they were but for that gate.
+/// comes; after an error the disk is handed back, and its bytes are as they were, but that a file of
+/// at most one byte may have any one byte then.
 pub fn recover<D: Disk>(
     alloc: Global,
     disk: D,

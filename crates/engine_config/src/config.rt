@@ -33,7 +33,7 @@ pub struct Config {
     pub names: Rows<Names>,
     /// The libraries are numbered from 1 to this, at most lease_core's `MOST_LIBRARIES`.
     pub libraries: u8,
-    /// How many connections are accepted, at most gate_io's `MOST_CONNECTIONS`.
+    /// How many connections are accepted at most. This is at most gate_io's `MOST_CONNECTIONS`.
     pub connections: u32,
     /// For how many sends of a library a session's lane has room, from 1 to lease_words' `LANE_SLOTS`.
     pub lane: u8,
@@ -49,6 +49,6 @@ pub struct Config {
     pub hold: u64,
     /// For each session to where it dials, and None for one that accepts.
     pub dialled: Rows<Option<DialTo>>,
-    /// How many connections are dialled, at most gate_io's `MOST_DIALLED`.
+    /// How many dials succeed at most. This is at most gate_io's `MOST_DIALLED`.
     pub dials: u32,
 }

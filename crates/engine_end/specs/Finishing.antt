@@ -52,7 +52,8 @@ pub record HasAllOf (desk : LeaseDesk) (s : ℕ) : Type 0 where
   pub settled : Each (IsSettled s (engine_at desk.seat s)) desk.seat.settled
   pub others : OthersTaken desk.seat.table.shape.libraries (engine_at desk.seat s)
 
--- Each session is gathered: its journal tells all that the libraries did. What sessions and connections then leave is handed out, with the records of the new entries.
+-- Each session is gathered: its journal tells all that the libraries did whose seats were taken in. What sessions and connections then leave is handed out, with the
+-- records of the new entries.
 pub record FinishesFrom (unkept : List Pending) (accepted at until : ℕ) (old : LibraryDesk) (left : EngineRecord) : Type 0 where
   pub gathered : LeaseDesk
   pub gathers : GathersAll at until old.desk gathered

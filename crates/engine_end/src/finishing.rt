@@ -30,9 +30,10 @@ use switchboard::Switchboard;
 /// a session sends waits on its connection and isn't written. `unkept` says which entries were handed
 /// out before, and `accepted` how many connections were accepted.
 ///
-/// Without memory each session and connection is handed out as it stood, each journal lawful: sends that
-/// only this gathering would have shown may be missing, and no record of a new entry is handed out. Where
-/// there is no memory for that either, `spare` has the room for it.
+/// Without memory each session and connection is handed out as it stood behind none, some or all of these
+/// gatherings, each journal lawful: sends and releases that only they would have shown may be missing,
+/// and no record of a new entry is handed out. Where there is no memory for that either, `spare` has the
+/// room for it.
 pub fn finish(
     alloc: Global,
     spare: RecordRoom,

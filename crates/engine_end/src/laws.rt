@@ -16,8 +16,8 @@ ghost use Rattle.switchboard.specs.Told.{ComeInOrder, moment_over};
 
 use switchboard::laws::{boards_go_on, boards_stay_ready};
 
-/// The last gathering is a run of happenings at its moment, also where memory is wanting: words are
-/// shown, and nothing else happens.
+/// The last gathering is a run of happenings at its moment, also where memory is wanting: room is made and
+/// words are shown, and nothing else happens.
 pub fn gathering_happens()
     ensures all { (at until : ℕ) (old new : LeaseDesk) → GathersAll at until old new → RunsGathering at until old.board new.board }
     ensures some { (at until : ℕ) (old new : LeaseDesk) → GathersSome at until old new → RunsGathering at until old.board new.board }

@@ -72,7 +72,7 @@ impl RecordRoom {
     }
 
     /// What sessions and connections leave as they stand, without a record of a new entry. Where there is
-    /// no room for them it has none of them.
+    /// no room for them it has none of them, nor a stray.
     pub(crate) fn fill_as_it_holds(
         self,
         alloc: Global,

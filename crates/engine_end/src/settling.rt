@@ -8,8 +8,8 @@ ghost use Rattle.lease_words.specs.Views.{LibraryView};
 use lease_desk::LeaseDesk;
 use lease_words::{Leases, LibrarySeat};
 
-/// Takes the seats of libraries in, in order. From then on each session's next look tells all that its
-/// library did of it. It takes no memory.
+/// Takes the seats of libraries in, in order. From then on each session's next look tells all that
+/// these libraries did of it. It takes no memory.
 pub(crate) fn settle_all(desk: &mut LeaseDesk, leases: &Leases, seats: Vec<LibrarySeat>)
     requires table { desk.old.seat.table ≡ leases.now }
     requires seats { All (λ (seat : LibraryView). seat.table ≡ leases.now) seats.items }

@@ -50,8 +50,8 @@ pub fn replies_stay()
     boards_go_on();
 }
 
-/// Each request is answered once, in order, and the replies are those that the journals and the strays
-/// tell: so it is where a run begins, and behind each turn.
+/// Each request that the engine popped is answered once, in order, and the replies are those that the journals
+/// and the strays tell: so it is where a run begins, and behind each turn.
 pub fn requests_are_answered()
     // Behind whatever entries there are as it begins.
     ensures first { (config : Config) (moment : ℕ) (shared : Shared) (d : LibraryDesk) → StartsDesk config moment shared d → StartsEngine config shared d.ends.items → AreAnswered (entries_of d.desk.board) d }

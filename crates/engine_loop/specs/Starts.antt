@@ -23,7 +23,7 @@ library_desk_of e = e.sessions
 abbrev pub wire_desk_of : Engine → WireDesk
 wire_desk_of e = e.lines
 
--- and the dials that are due
+-- and to where its sessions dial, when next, and how many dials succeeded and may
 abbrev pub dialler_of : Engine → Dialler
 dialler_of e = e.dialler
 
@@ -36,7 +36,7 @@ pub record StartsRoutes (config : Config) (count : ℕ) (routes : Routes) : Type
   pub sessions : routes.sessions.items ≡ accepting_sessions config count
   pub names : routes.names.items ≡ map (names_of config) (accepting_sessions config count)
 
--- There is no connection.
+-- There is no connection, and there is room for one read.
 pub record HasNoLines (w : WireDesk) : Type 0 where
   pub accepted : w.accepted.items ≡ []
   pub dialled : w.dialled.items ≡ []
@@ -54,11 +54,12 @@ pub record StartsDials (config : Config) (d : Dialler) : Type 0 where
   pub made : d.made ≡ 0
   pub most : d.most ≡ config.dials
 
--- for the records of each session, and of as many connections as are accepted and dialled
+-- for the records of each session, and of as many connections as can be accepted and dialled
 abbrev pub room_of : Config → Room
 room_of config = record { sessions = length config.names; connections = config.connections + config.dials }
 
--- The limits are those that are configured, there is room for what a run leaves, and no turn was made.
+-- The limits are those that are configured, no connection was accepted, the moment is this one, there is
+-- room for what a run leaves, and memory wasn't wanting.
 pub record StartsFigures (config : Config) (at : ℕ) (e : Engine) : Type 0 where
   pub connections : e.connections ≡ config.connections
   pub accepted : e.accepted ≡ 0

@@ -23,7 +23,7 @@ use Rattle.wire_desk.specs.Stops.{StopsCalling, StopsReading, StopsWriting}
 abbrev pub TellsNothing : Engine → Engine → Type 0
 TellsNothing old new = NothingIsTold old.sessions.desk.board new.sessions.desk.board
 
--- sessions were served, and nothing more is told
+-- each library was served, and nothing more is told
 pub record StopsBehindServing (served : Engine) (turns : List LibTurn) (old new : Engine) : Type 0 where
   pub serves : InTurn (λ i. ServesOne (i + 1)) (length old.sessions.ends.items) (serving_of old []) (serving_of served turns)
   pub stops : TellsNothing served new

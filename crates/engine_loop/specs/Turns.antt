@@ -27,11 +27,11 @@ use Rattle.wire_desk.specs.Lines.{standing}
 use Rattle.wire_desk.specs.Places.{dialled_behind, listed_behind, open_places}
 use Rattle.wire_desk.specs.Steps.{AcceptsAs, Reads, WritesInTurn, sessions_of, written_so_far}
 
--- a turn begins: its moment is the clock's reading, or that of the turn before where that is later
+-- a turn begins: its moment is the clock's reading, at most the last moment, or that of the turn before where that is later
 abbrev pub with_moment : ℕ → Engine → Engine
 with_moment reading e = record e { moment = max e.moment (min reading LAST_MOMENT) }
 
--- one connection more was accepted
+-- how many connections were accepted behind this answer: one more where one came
 abbrev pub accepted_after : Accepted → ℕ → ℕ
 accepted_after (New number) count = count + 1
 accepted_after Nothing count = count
@@ -111,7 +111,7 @@ pub record ReadsOne (k : ℕ) (old new : Reading) : Type 0 where
 abbrev pub ReadsIfStands : ℕ → Reading → Reading → Type 0
 ReadsIfStands k old new = ReadsOne k old new ⊎ (((connection_at old.engine.sessions.desk.board k).cause ≡ None → ⊥) × (new ≡ old))
 
--- the connections that aren't closed are read, in the order in which these places have them
+-- the connections at these places are read, each if it stands then, in this order
 abbrev pub ReadsAll : List ℕ → Reading → Reading → Type 0
 ReadsAll places old new = InTurn (λ i. ReadsIfStands (slice_index_or places i 0)) (length places) old new
 
@@ -134,7 +134,8 @@ pub record ServesOne (library : ℕ) (old new : Serving) : Type 0 where
 abbrev pub NotesSession : ℕ → Engine → Engine → Type 0
 NotesSession s old new = (new.lines.unkept.items ≡ noted s old.sessions.desk.board old.lines.unkept.items) × (new ≡ record old { lines = record (old.lines) { unkept = new.lines.unkept } })
 
--- The first half of a turn: one connection is accepted, sessions dial, each connection that stands is read, each session hears the clock, each library is served.
+-- The first half of a turn: at most one connection is accepted, each session dials where that is due, each connection that stands is read, each session hears the
+-- clock, each library is served, and what came of each session's entries is noted.
 pub record TakesTurn (reading : ℕ) (old new : AtWire) (taken : Taken) : Type 0 where
   pub accepted : AtWire
   pub dialled : AtWire
@@ -172,7 +173,7 @@ pub record GivesAll (links_old links_new : ℕ → Link) (old new : Engine) (byt
   pub publishes : InTurn PublishesSession (length old.sessions.desk.board.sessions) old published
   pub writes : WritesAll links_old links_new published new bytes
 
--- The second half of a turn: each session's messages are published, and each connection that isn't closed is written to.
+-- The second half of a turn: the length of each session's inbound log is published, and each connection that isn't closed is written to.
 pub record GivesTurn (old new : AtWire) (taken : Taken) (turn : Turn) : Type 0 where
   pub gives : GivesAll old.links new.links old.engine new.engine turn.written
   pub door : new.door ≡ old.door

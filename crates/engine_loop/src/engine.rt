@@ -28,7 +28,7 @@ pub struct Engine {
     pub(crate) moment: u64,
     /// Room for what the run leaves, where there is no memory for it at its end.
     pub(crate) spare: RecordRoom,
-    /// Memory was wanting: nothing more is done.
+    /// Memory was wanting in a turn: nothing more is done, but that the end hands out what is there.
     pub(crate) failed: bool,
 }
 
@@ -48,7 +48,8 @@ impl Engine {
         self.sessions.desk.board.session(s as usize).bound()
     }
 
-    /// The library that has a session, or 0 for the engine, and the session's last lease.
+    /// The library that has a session, or 0 for the engine, and the number of the session's last lease,
+    /// or 0 where none was granted.
     pub fn owner(&self, s: u16) -> (u8, u32)
         requires { s < length self.now.sessions.desk.board.sessions }
         ensures owner { result.0 ≡ owner_at self.now.sessions.desk.board s }
@@ -64,7 +65,7 @@ impl Engine {
         self.sessions.desk.board.connections()
     }
 
-    /// The number of a connection, and why it ended, if it did: of the k-th of those that came.
+    /// The number of a connection, and why it ended, if it did: of the k-th of those that came, k from 0.
     pub fn connection(&self, k: usize) -> (u32, Option<Cause>)
         requires { k < length self.now.sessions.desk.board.connections }
         ensures number { result.0 ≡ (connection_at self.now.sessions.desk.board k).number }
@@ -81,7 +82,7 @@ impl Engine {
         self.moment
     }
 
-    /// The moment until which an heir is waited for that is named now.
+    /// The moment until which an heir is waited for that is named now, at most `LAST_MOMENT`.
     pub(crate) fn until(&self) -> u64
         ensures { result ≡ until_of self.now }
     {

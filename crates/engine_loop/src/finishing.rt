@@ -24,7 +24,8 @@ impl Engine {
     /// Ends the run: takes the libraries' seats in, gathers each session once more with the last turn's
     /// moment, and hands out what the run leaves. What a session sends waits on its connection and isn't
     /// written. Without memory, now or in an earlier turn, each session and connection is handed out as it
-    /// stood, each journal lawful: sends that only this gathering would have shown may be missing.
+    /// stood, each journal lawful: sends and releases that only this gathering would have shown may be
+    /// missing.
     pub fn finish(
         self,
         alloc: Global,

@@ -52,9 +52,9 @@ impl Engine {
     }
 
     /// The second half of a turn. The length of each session's inbound log is published; each connection
-    /// that isn't closed is written to, and is closed if it has ended. The next dial of a session whose dialled
-    /// connection ended in this turn is as much later as its wait. Without memory what was done stays, each
-    /// event whole, and from then on the engine does nothing more.
+    /// that isn't closed is written to, and is closed if it has ended. A session whose dialled connection ended
+    /// in this turn dials no sooner than its wait behind the turn's moment. Without memory what was done stays,
+    /// each event whole, and from then on the engine does nothing more.
     pub fn give<W: Dial>(
         &mut self,
         shared: &Shared,

@@ -18,7 +18,8 @@ use library_desk::Shared;
 use std::alloc::Global;
 
 impl Engine {
-    /// Reads each connection that stands once, in the order of their numbers. Answers what the reads gave.
+    /// Reads each connection that stands once, in the order of their numbers, and handles what it brings.
+    /// Answers what the reads gave.
     pub(crate) fn read_all<W: Wire>(
         &mut self,
         alloc: Global,
@@ -46,7 +47,8 @@ impl Engine {
         Ok(got)
     }
 
-    /// Reads the connection at a place, if it stands, and puts what the read gave behind the others.
+    /// Reads the connection at a place, if it stands, handles what it brings, and puts what the read gave
+    /// behind the others.
     fn read_place<W: Wire>(
         &mut self,
         alloc: Global,

@@ -28,7 +28,7 @@ use wire_desk::laws::{places_stay_apart, places_stay_in_order};
 use wire_desk::{Dialler, WireDesk};
 
 /// An engine that made no turn, what it shares with its libraries, and their ends, in the order of their
-/// numbers from 1. It begins at the moment, in milliseconds since 1970-01-01.
+/// numbers from 1. It begins at the moment, in milliseconds since 1970-01-01, at most `LAST_MOMENT`.
 pub fn start(
     alloc: Global,
     config: Config,
@@ -61,8 +61,13 @@ pub fn start(
 /// An engine as `start` makes it, behind the records of the runs before: each session goes on with its
 /// journal, its logs and the number that it expected behind its last record, and the lease table behind the
 /// last leases. A journal that a run left open is closed first: by the hold of a last release with an heir,
-/// by the end of an active lease, by the end of a bound connection. `fresh` hands these entries out first.
-/// It takes time in proportion to the records.
+/// until the configured time behind the moment, at most `LAST_MOMENT`; by the end of an active lease; by
+/// the end of a bound connection. `fresh` hands these entries out, of each session before its later ones.
+/// Beside the time of `start` it takes time in proportion to the records.
+///
+/// Each record is of a session of the configuration, its expected number is from 1 to one more than
+/// seq_gaps' `MAX_NUMBER`, and one of a message that was numbered has a body that can be written. Each
+/// session's entries are a run, in which it can be granted as often as is configured.
 pub fn start_from(
     alloc: Global,
     config: Config,
@@ -126,7 +131,7 @@ fn outset(
     })
 }
 
-/// Room for what a run leaves: of each session, and of as many connections as are accepted and dialled.
+/// Room for what a run leaves: of each session, and of as many connections as can be accepted and dialled.
 fn spare(alloc: Global, config: &Config) -> Result<RecordRoom, NoMemory>
     requires config { IsConfig config.now }
     ensures { IfOk result (λ room. room ≡ room_of config.now) }

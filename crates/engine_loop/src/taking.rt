@@ -17,11 +17,12 @@ use library_desk::Shared;
 use std::alloc::Global;
 
 impl Engine {
-    /// The first half of a turn. Its moment is the clock's reading, or that of the turn before where that is
-    /// later. At most one connection is accepted, sessions dial, each connection that
-    /// stands is read and what it brings is handled, each
-    /// session hears the clock, each library is served. Without memory what was done stays, each event
-    /// whole, and from then on the engine does nothing more.
+    /// The first half of a turn. Its moment is the clock's reading, at most `LAST_MOMENT`, or that of the
+    /// turn before, at first that at which the engine began, where that is later. At most one connection is
+    /// accepted, each session dials where that is due, each connection that stands is read and what it
+    /// brings is handled, each session hears the clock, each library is served, and the new entries are
+    /// noted. Without memory what was done stays: the steps before one, and of that a beginning, each act
+    /// whole. From then on the engine does nothing more.
     pub fn take<W: Dial, C: Clock>(
         &mut self,
         alloc: Global,
@@ -59,8 +60,9 @@ impl Engine {
         }
     }
 
-    /// The first half of a turn at a reading of the clock: at most one connection is accepted, each that
-    /// stands is read and what it brings is handled, each session hears the clock, each library is served.
+    /// The first half of a turn at a reading of the clock: at most one connection is accepted, each session
+    /// dials where that is due, each connection that stands is read and what it brings is handled, each
+    /// session hears the clock, each library is served, and the new entries are noted.
     pub(crate) fn take_at<W: Dial>(
         &mut self,
         alloc: Global,
@@ -95,7 +97,8 @@ impl Engine {
         })
     }
 
-    /// The turn's moment is the clock's reading, or that of the turn before where that is later.
+    /// The turn's moment is the clock's reading, at most `LAST_MOMENT`, or that of the turn before where
+    /// that is later.
     fn set_moment(&mut self, _shared: &Shared, reading: u64)
         requires work { IsAtWork _shared.now self.old }
         ensures moment { self.new ≡ with_moment reading self.old }

@@ -42,7 +42,7 @@ records_of s (r ∷ records) = if r.s == s then r ∷ records_of s records else 
 abbrev pub entries_in : List Record → List Entry
 entries_in records = map (λ (r : Record). r.entry) records
 
--- The record is of one of so many sessions, its expected number is one, and a body that was numbered can be written.
+-- The record is of one of so many sessions, its expected number is from 1 to one more than MAX_NUMBER, and a body that was numbered can be written.
 pub record CanBeRevived (sessions : ℕ) (r : Record) : Type 0 where
   pub session : r.s < sessions
   pub expected_from : 1 ≤ r.expected

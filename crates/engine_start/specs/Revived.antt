@@ -36,7 +36,7 @@ pub record AreRevived (leases count : ℕ) (records : List Record) (revived : Li
   pub count_is : length revived ≡ count
   pub each : (s : ℕ) → s < count → revived_at revived s ≡ revived_by leases (records_of s records)
 
--- so many sessions, each with an expected number that is one
+-- so many sessions, each with an expected number from 1 to one more than MAX_NUMBER
 pub record CanGoOn (count : ℕ) (revived : List Revived) : Type 0 where
   pub count_is : length revived ≡ count
   pub from_one : (s : ℕ) → s < count → 1 ≤ (revived_at revived s).expected

@@ -63,7 +63,7 @@ pub record StartsTable (config : Config) (shared : Shared) : Type 0 where
   pub shape : shared.leases.shape ≡ new_shape config
   pub rings : HaveRings config shared
 
--- a table for as many sessions and libraries, with as much room
+-- a table for as many sessions and libraries, with lanes of as much room
 pub record IsShapeOf (config : Config) (shape : Shape) : Type 0 where
   pub sessions : shape.sessions ≡ length config.names
   pub libraries : shape.libraries ≡ config.libraries

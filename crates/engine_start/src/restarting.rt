@@ -24,10 +24,14 @@ use switchboard::laws::boards_stay_ready;
 /// Makes what `start` makes, behind the records of the runs before: each session goes on with its
 /// journal, its logs and the number that it expected behind its last record, and the lease table behind
 /// the last leases. A journal that a run left open is closed first. Where it ends in a release with an
-/// heir, its hold follows, until the configured time behind the moment, in milliseconds; an active
-/// lease is taken back, and a bound connection is left. What was recovered is kept already, and these
-/// entries are noted as new for each session. It takes time in proportion to the records, and moves
-/// their bodies.
+/// heir, its hold follows, until the configured time behind the moment, in milliseconds, at most
+/// `LAST_MOMENT`; an active lease is taken back, and a bound connection is left. What was recovered is
+/// kept already, and these entries are noted as new for each session. Beside the time of `start` it
+/// takes time in proportion to the records, and it moves their bodies.
+///
+/// Each record is of a session of the configuration, its expected number is from 1 to one more than
+/// seq_gaps' `MAX_NUMBER`, and one of a message that was numbered has a body that can be written. Each
+/// session's entries are a run, in which it can be granted as often as is configured.
 pub fn start_from(
     alloc: Global,
     config: &Config,
@@ -55,7 +59,7 @@ pub fn start_from(
     Ok((desk, shared, libraries, unkept))
 }
 
-// The moment until which the heirs are waited for whose holds were missing.
+// The moment until which the heirs are waited for whose holds were missing, at most `LAST_MOMENT`.
 fn hold_until(config: &Config, moment: u64) -> u64
     ensures { result ≡ hold_until config.now moment }
 {

@@ -43,8 +43,9 @@ impl Builder {
         }
     }
 
-    /// Writes a field at the end. Only the value of a data field that stands directly behind its
-    /// length field may have SOH in it. Without memory the body is as it was.
+    /// Writes a field at the end. Its tag is from 1 to `LAST_TAG`, and its value has at least one
+    /// byte. Only the value of a data field that stands directly behind its length field may have
+    /// SOH in it. How long the body gets isn't bounded. Without memory it is as it was.
     pub fn field(&mut self, _alloc: Global, tag: u32, value: &[u8]) -> Result<(), NoMemory>
         requires tag_from { 1 ≤ tag }
         requires tag_to { tag ≤ LAST_TAG }

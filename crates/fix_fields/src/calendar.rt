@@ -19,7 +19,7 @@ pub(crate) fn date_of(day: u32) -> (u32, u32, u32)
     (date.year as u32, date.month as u32, date.day as u32)
 }
 
-/// The days from 1970-01-01 to a date from there on, if the calendar has it.
+/// The days from 1970-01-01 to a date from there to 9999-12-31, if the calendar has it.
 pub(crate) fn day_of(year: u32, month: u32, day: u32) -> Option<u32>
     ensures value { result ≡ day_of_date (record { year = year; month = month; day = day }) }
     ensures bound { IfSome result (λ n. n ≤ LAST_DAY) }

@@ -13,8 +13,8 @@ const DAY_SECONDS: u64 = 86_400;
 /// The milliseconds of a day.
 const DAY_MS: u64 = 86_400_000;
 
-/// The text of a moment, in milliseconds since 1970-01-01 UTC, as `YYYYMMDD-HH:MM:SS.sss`: a
-/// UTCTimestamp of FIX 4.4.
+/// The text of a moment, in milliseconds since 1970-01-01 UTC and at most `LAST_MOMENT`, as
+/// `YYYYMMDD-HH:MM:SS.sss`: a UTCTimestamp of FIX 4.4.
 pub fn stamp_text(ms: u64) -> [u8; 21]
     requires { ms ≤ LAST_MOMENT }
     ensures { result ≡ stamp_of ms }
@@ -49,7 +49,8 @@ pub fn stamp_text(ms: u64) -> [u8; 21]
 }
 
 /// The moment of a timestamp, in milliseconds since 1970-01-01 UTC: `YYYYMMDD-HH:MM:SS`, or the
-/// same with `.sss`, of a real date from 1970 on and seconds from 00 to 59.
+/// same with `.sss`, of a real date from 1970 to 9999, hours from 00 to 23, and minutes and
+/// seconds from 00 to 59. Of any other text there is none.
 #[tactic(auto, unfolding(crate::specs::Stamp::moment_of))]
 pub fn read_stamp(bytes: &[u8]) -> Option<u64>
     ensures { result ≡ moment_of bytes.now }
@@ -70,7 +71,7 @@ fn digit(n: u32) -> u8
     b'0' + (n % 10) as u8
 }
 
-/// The days from 1970-01-01 to a date `YYYYMMDD` from there on.
+/// The days from 1970-01-01 to a date `YYYYMMDD` from there to 9999-12-31, if the calendar has it.
 #[tactic(auto, unfolding(crate::specs::Stamp::day_in))]
 fn read_day(text: &[u8]) -> Option<u64>
     requires { length text.now ≡ 8 }
@@ -84,7 +85,7 @@ fn read_day(text: &[u8]) -> Option<u64>
     Some(day as u64)
 }
 
-/// The seconds from midnight to a time `HH:MM:SS`.
+/// The seconds from midnight to a time `HH:MM:SS`, from 00:00:00 to 23:59:59.
 #[tactic(auto, unfolding(crate::specs::Stamp::second_in))]
 fn read_second(text: &[u8]) -> Option<u64>
     requires { length text.now ≡ 8 }

@@ -36,7 +36,7 @@ exactly text = map (λ c b. b == c) text
 abbrev pub trailer : List (ℕ → Bool)
 trailer = replicate 3 is_ascii_digit ++ exactly (1 ∷ [])
 
--- a test for each byte behind the head, where the body has n bytes
+-- a test for each byte of a body of n bytes, at least 4, and of the field of the checksum behind it
 abbrev pub form : ℕ → List (ℕ → Bool)
 form n = exactly (codes "35=") ++ (replicate (n - 4) (λ _. true) ++ (exactly (1 ∷ codes "10=") ++ trailer))
 
@@ -54,7 +54,7 @@ fits limit count number = nat_le 1 count && (nat_le count MOST_DIGITS && (nat_le
 abbrev pub can_become : ℕ → ℕ → ℕ → Bool
 can_become limit count number = fits limit count number || list_any (λ d. fits limit (count + 1) (10 * number + d)) (0 ∷ 1 ∷ 2 ∷ 3 ∷ 4 ∷ 5 ∷ 6 ∷ 7 ∷ 8 ∷ 9 ∷ [])
 
--- what stands at a place whose head is whole, told from where the body begins
+-- what stands at a place whose head and length field are whole, told from where the body begins
 unfoldable pub behind_head : List ℕ → List ℕ → Standing
 behind_head field bytes =
     let n = number_of field in

@@ -45,7 +45,7 @@ pub record IsFormed (bytes : List ℕ) (at n size : ℕ) : Type 0 where
   pub end : size ≡ at + n + 7
   pub within : size ≤ length bytes
 
--- what stands behind a whole head, where a body of n bytes begins
+-- what stands behind a whole head and length field, where a body of n bytes begins
 abbrev pub IsBehind : List ℕ → ℕ → ℕ → Front → Type 0
 IsBehind bytes at n (Rest quiet) = IsPart bytes at n quiet
 IsBehind bytes at n Stray = IsFalse (agrees (form n) (drop at bytes))

@@ -39,9 +39,11 @@ pub enum OwnedPiece {
 /// Cuts the bytes of one connection, which come in pieces of any size, into frames and garbled
 /// bytes, in order.
 ///
-/// It holds at most one frame and what was read behind it, in one buffer, which is made by `new`.
-/// A call of `next` takes constant time beside the sum over a frame that is there whole, and each
-/// byte is summed once.
+/// It holds at most `LEAST_ROOM` bytes more than its limit, in one buffer, which is made by `new`. A
+/// call of `next` takes constant time, but for two things. A whole stretch with the form of a frame
+/// is summed, so each byte is summed at most once. And where such a stretch goes past the buffer's
+/// end, the whole buffer is turned, so that the stretch lies in one slice: only then bytes that are
+/// held move, and at least `LEAST_ROOM` bytes have gone since the turn before.
 #[derive(Drop)]
 pub struct Cutter {
     limit: usize,
@@ -63,7 +65,8 @@ impl Model for Cutter {
 }
 
 impl Cutter {
-    /// A cutter of frames of at most `limit` bytes that holds nothing.
+    /// A cutter of frames of at most `limit` bytes that holds nothing. The limit is from `LEAST_LIMIT`
+    /// to `LONGEST_FRAME`.
     pub fn new(alloc: Global, limit: usize) -> Result<Cutter, NoMemory>
         requires least { LEAST_LIMIT ≤ limit }
         requires most { limit ≤ LONGEST_FRAME }
@@ -128,7 +131,8 @@ impl Cutter {
         }
     }
 
-    /// The same, where the body of a good piece comes in memory of its own.
+    /// The same, where the body of a good piece is copied to memory of its own. Without memory nothing
+    /// changed.
     pub fn take_next(&mut self, alloc: Global) -> Result<Option<OwnedPiece>, NoMemory>
         ensures piece { IfOk result (λ given. option_map cut_piece given ≡ option_map (λ found. found.piece) (piece_at self.old.limit self.old.held)) }
         ensures none { IfOk result (λ given. IsNone given ↔ ((cut self.old.limit self.old.held).pieces ≡ [])) }

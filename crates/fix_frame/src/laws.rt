@@ -52,7 +52,8 @@ pub fn frames_are_good_pieces()
     ensures written { (limit : ℕ) (body : List ℕ) → limit ≤ LONGEST_FRAME → IsBody body → length (frame_of body) ≤ limit → IsFrame limit (frame_of body) body }
 {}
 
-/// How many bytes a frame has beside its body, and which bodies have one that isn't too long.
+/// How many bytes the frame that is written of a body has at most beside it, and which bodies have one that
+/// isn't too long.
 pub fn frames_have_bounds()
     ensures framing { (body : List ℕ) → length body ≤ LONGEST_FRAME → length (frame_of body) ≤ length body + FRAMING }
     ensures longest { (body : List ℕ) → (length (frame_of body) ≤ LONGEST_FRAME) ↔ (length body ≤ LONGEST_BODY) }

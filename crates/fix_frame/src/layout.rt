@@ -5,13 +5,14 @@ ghost use Rattle.std.specs.Prelude.{◌≡◌, ◌%◌, sum};
 /// The most bytes that a frame has, read or written.
 pub const LONGEST_FRAME: usize = 65_536;
 
-/// The most bytes that a frame of at most `LONGEST_FRAME` bytes has beside its body.
+/// The most bytes that a frame of at most `LONGEST_FRAME` bytes has beside its body, where it is
+/// written. One that is read may have four more: leading zeros of its length.
 pub const FRAMING: usize = 25;
 
 /// The most bytes of a body whose frame isn't too long.
 pub const LONGEST_BODY: usize = LONGEST_FRAME - FRAMING;
 
-/// The least limit that a `Cutter` takes.
+/// The least limit that a `Cutter` takes. The greatest is `LONGEST_FRAME`.
 pub const LEAST_LIMIT: usize = 32;
 
 /// How many bytes a `Cutter` has room for at least, once it has no further piece.

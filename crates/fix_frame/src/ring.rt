@@ -86,8 +86,8 @@ impl Ring {
         }
     }
 
-    /// Lets the first `count` bytes go, and lends them in one slice. They move only where they go
-    /// past the buffer's end.
+    /// Lets the first `count` bytes go, and lends them in one slice. Where they go past the
+    /// buffer's end the whole buffer is turned before, and else nothing moves.
     pub(crate) fn take(&mut self, count: usize) -> &[u8]
         requires { count ≤ length self.old.bytes }
         ensures value { result.now ≡ take count self.old.bytes }
@@ -126,8 +126,8 @@ fn write_at(buffer: &mut [u8], at: usize, piece: &[u8])
     buffer[at..at + piece.len()].copy_from_slice(piece);
 }
 
-/// Moves the `held` bytes that begin at `start` only where the first `count` of them go past the
-/// buffer's end, and gives the place where they begin then.
+/// Turns the buffer where the first `count` of the `held` bytes that begin at `start` go past its
+/// end, so that they begin at its front, and gives the place where they begin then.
 fn straighten(buffer: &mut Vec<u8>, start: usize, held: usize, count: usize) -> usize
     requires start { start ≤ vec_len buffer.old }
     requires held { held ≤ vec_len buffer.old }

@@ -1,13 +1,14 @@
-//! The gate: what a library asks before each of its calls.
+//! The gate: what a library asks before each call of its plan.
 
 ghost use Rattle.std.specs.Prelude.{◌≡◌, Bool, true};
 
-/// What a library asks before each of its calls, so that a test can hold it back.
+/// What a library asks before each call of its plan, so that a test can hold it back.
 pub trait Gate {
     /// Whether the gate lets everyone pass.
     ghost open_wide: { Self → Bool };
 
-    /// Whether this library may make its next call. `turn` is the number of its passes so far.
+    /// Whether this library may make its next call. `turn` is how often it asked before, also where
+    /// it wasn't let pass.
     fn pass(&self, lib: u32, turn: u64) -> bool
         ensures { open_wide self.now ≡ true → result ≡ true };
 }

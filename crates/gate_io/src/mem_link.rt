@@ -112,7 +112,7 @@ impl MemLink {
         self.closed = true;
     }
 
-    /// Room for so many more written bytes, unless the connection is closed.
+    /// Room for at least so many more written bytes, unless the connection is closed.
     pub fn reserve(&mut self, n: usize) -> Result<(), NoMemory>
         ensures ok { OnOk result (self.new ≡ link_reserved n self.old) }
         ensures err { OnErr result (self.new ≡ self.old) }

@@ -10,8 +10,9 @@ use crate::sinks::{Sink, Wrote};
 use std::alloc::Global;
 use std::marker::Model;
 
-/// A sink that keeps what it takes in memory, has room for so many bytes, and fails at the calls
-/// that it is told.
+/// A sink that keeps what it takes in memory. Its room is how many bytes more it takes: a write
+/// takes as much of the piece as there is room for. A write fails with no room left, and at the
+/// calls that the sink is told.
 #[derive(Debug, Drop)]
 pub struct MemSink {
     held: Vec<u8>,
@@ -33,8 +34,8 @@ impl Model for MemSink {
 }
 
 impl MemSink {
-    /// An empty sink with room for so many bytes. `fails` lists the calls, counted from 0, that
-    /// fail.
+    /// An empty sink with room for so many bytes in all. `fails` lists the calls, counted from 0,
+    /// that fail.
     pub fn new(alloc: Global, room: usize, fails: Vec<u64>) -> Result<MemSink, NoMemory>
         ensures { IfOk result (λ s. s ≡ record { held = []; room = room; fails = fails.items; calls = 0; faults = 0 }) }
     {

@@ -14,7 +14,9 @@ use std::alloc::Global;
 use std::marker::Model;
 
 /// A wire in memory: connections whose bytes are given beforehand, which keep what is written to
-/// them, and of which calls fail or are blocked as they are told.
+/// them, and of which calls fail or are blocked as they are told. The room of a connection is how
+/// many more written bytes it takes, none at first: `reserve` makes it, and a write with none left
+/// fails.
 #[derive(Debug, Drop)]
 pub struct MemWire {
     links: Vec<MemLink>,

@@ -1,4 +1,4 @@
-//! A clock over the system's, which never goes back.
+//! A clock over the system's, which may be set back and ahead.
 
 ghost use Rattle.std.specs.Prelude.{◌≡◌, ◌<◌, ◌≤◌, ◌^◌, ℕ, max};
 ghost use Rattle.gate_io.specs.Clock.{HasFigures, TakesReadings, greatest_of, last_of};
@@ -10,8 +10,9 @@ use std::marker::Model;
 use std::rt;
 use std::time::{SystemTime, UNIX_EPOCH};
 
-/// The system's clock. Where it can't be read, it gives the last reading again, 0 at first. Nothing
-/// is known of its readings.
+/// The system's clock, which may be set back and ahead. Where it can't be read, stands before
+/// 1970-01-01, or has more milliseconds than a `u64`, it gives the last reading again, 0 at first.
+/// No clause says which readings it gives.
 #[derive(Drop)]
 pub struct RealClock<R: rt::Clock> {
     rt: R,
@@ -41,7 +42,7 @@ impl<R: rt::Clock> RealClock<R> {
         }
     }
 
-    /// The milliseconds since 1970-01-01, or the last reading, where the clock can't be read.
+    /// The milliseconds since 1970-01-01, or the last reading, where `passed` has none.
     fn moment(&self) -> u64 {
         match self.passed() {
             Some(passed) => passed,
@@ -49,7 +50,8 @@ impl<R: rt::Clock> RealClock<R> {
         }
     }
 
-    /// The milliseconds since 1970-01-01, where the clock can be read and they fit.
+    /// The milliseconds since 1970-01-01, where the clock can be read, stands at that day or later,
+    /// and they fit.
     fn passed(&self) -> Option<u64> {
         let now = SystemTime::now(&self.rt).ok()?;
         let passed = now.duration_since(UNIX_EPOCH).ok()?;

@@ -21,6 +21,10 @@ pub trait Sink {
     /// How many writes failed.
     ghost faults: { Self → ℕ };
 
+    /// Writes the first bytes of a piece that isn't empty. `Bytes` took so many of them, at least
+    /// one. `Failed` took none, and comes only where the faults rose, or stand at the end of their
+    /// type; they never fall. Where the sink tells what it holds, the bytes that were taken stand
+    /// behind that.
     fn write(&mut self, piece: &[u8]) -> Wrote
         requires { 0 < length piece.now }
         ensures within { WroteWithin (length piece.now) result }

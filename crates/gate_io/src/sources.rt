@@ -26,6 +26,12 @@ pub trait Source {
     /// How many reads found the end.
     ghost ends: { Self → ℕ };
 
+    /// Reads into a buffer that isn't empty. `Bytes` has put so many bytes, at least one, at the
+    /// buffer's front. `End` comes only where the ends rose, and `Failed` only where the faults
+    /// did, or where that count stands at the end of its type; neither falls. Where the source
+    /// tells which bytes are left, those given are the first of them, the others are left, `End`
+    /// comes only with none left, and `Failed` takes none. No clause says what else stands in the
+    /// buffer then.
     fn read(&mut self, buf: &mut [u8]) -> Got
         requires { 0 < length buf.old }
         ensures within { GotWithin (length buf.old) result }

@@ -100,7 +100,10 @@ pub trait Wire {
         ensures door_goes_on { DoorGoesOn (door self.old) (door self.new) }
         ensures links_stay { (c : ℕ) → link self.new c ≡ link self.old c };
 
-    /// Takes the next connection that waits.
+    /// Takes the next connection that waits, where fewer than `MOST_CONNECTIONS` were accepted.
+    /// `New` has it open, with nothing written to it, and counts it as accepted. `Nothing` and
+    /// `Failed` accept none, and each comes only where its own count rose, or stands at the end of
+    /// its type. No other count of the wire changes, and no connection that was there.
     fn accept(&mut self) -> Accepted
         requires { (door self.old).accepted < MOST_CONNECTIONS }
         ensures accepts { Accepts (door self.old) (door self.new) (link self.new) result }
@@ -110,6 +113,13 @@ pub trait Wire {
         ensures goes_on { LinkGoesOn (link self.old (door self.old).accepted) (link self.new (door self.old).accepted) }
         ensures others_stay { OthersStay (link self.old) (link self.new) (door self.old).accepted };
 
+    /// Reads what came on an open connection, into a buffer that isn't empty. `Bytes` has put so
+    /// many bytes, at least one, at the buffer's front. `End`, `Blocked` and `Failed` give none,
+    /// and each comes only where its own count of the connection rose, or stands at the end of its
+    /// type. Where the wire tells which bytes are left, those given are the first of them, the
+    /// others are left, and `End` comes only with none left. The connection stays open, what was
+    /// written to it stays, and so do the wire's own counts and the other connections. No clause
+    /// says what else stands in the buffer then.
     fn read(&mut self, c: u32, buf: &mut [u8]) -> WireGot
         requires open_still { IsOpen (door self.old) (link self.old) c }
         requires room { 0 < length buf.old }
@@ -124,6 +134,11 @@ pub trait Wire {
         ensures door_stays { door self.new ≡ door self.old }
         ensures others_stay { OthersStay (link self.old) (link self.new) c };
 
+    /// Writes the first bytes of a piece that isn't empty to an open connection. `Bytes` took so
+    /// many of them, at least one. `Blocked` and `Failed` took none, and each comes only where its
+    /// own count of the connection rose, or stands at the end of its type. Where the wire tells
+    /// what was written, the bytes that were taken stand behind that. The connection stays open,
+    /// what is left to read of it stays, and so do the wire's own counts and the other connections.
     fn write(&mut self, c: u32, piece: &[u8]) -> WireWrote
         requires open_still { IsOpen (door self.old) (link self.old) c }
         requires bytes { 0 < length piece.now }
@@ -151,6 +166,7 @@ pub trait Wire {
         ensures others_stay { OthersStay (link self.old) (link self.new) c };
 
     /// Waits for something to do, for at most this many milliseconds where the wire waits at all.
+    /// What the wire tells stays. No clause says how long it waits.
     fn pause(&mut self, ms: u32)
         ensures exact { pause_gives self.old ms self.new }
         ensures door_stays { door self.new ≡ door self.old }

@@ -34,8 +34,9 @@ use run_report::RunRecord;
 use script_text::{LONGEST_SCRIPT, ScriptError};
 use std::alloc::Global;
 
-/// Carries out the script that the words name, or the drill of so many rounds, and writes the report of the
-/// run, or the summary. A drill doesn't read the source.
+/// Carries out the script that the source has, or the drill of so many rounds, as the words say, and writes
+/// the report of the run, or the summary. The path of the words isn't looked at, and a drill doesn't read
+/// the source.
 ///
 /// Statuses are tested in the order `Usage`, `ReadFault`, `ScriptFault`, `WriteFault`. Where the source
 /// tells the bytes that are left, they are the script. The record is empty where no run began; where memory

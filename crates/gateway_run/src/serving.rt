@@ -32,11 +32,11 @@ use script_text::{LONGEST_SCRIPT, Script, ScriptError};
 use std::alloc::Global;
 use std::thread::Threads;
 
-/// Serves the script that the words name, at the address that they name: the engine takes connections and dials over
-/// the wire, and each library carries out its lines, in threads of their own. It ends where as many connections as
-/// are configured were accepted and have ended, as many as `dials` says were dialled and have ended, and each library
-/// said that all its work is done; or where the engine made as many turns as the words say. A library gives its work
-/// up at a line that had as many waiting turns. Then the report of it all is written.
+/// Serves the script that the source has, at the address that the words name, whose path isn't looked at: the engine
+/// takes connections and dials over the wire, and each library carries out its lines, in threads of their own. It ends
+/// where as many connections as are configured were accepted and have ended, as many as `dials` says were dialled and
+/// have ended, and each library said that all its work is done; or where the engine made as many turns as the words
+/// say. A library gives its work up at a line that had as many waiting turns. Then the report of it all is written.
 ///
 /// Statuses are tested in the order `Usage`, `ReadFault`, `ScriptFault`, `ListenFault`, `WriteFault`, `TurnsSpent`.
 /// The record is empty where no run began; where memory was wanting later it is what there was.
@@ -57,7 +57,7 @@ pub fn serve<
     gate: &G,
     out: &mut Si,
 ) -> (Status, RunRecord)
-    // Nothing came at the wire before.
+    // No connection was accepted or dialled over the wire before.
     requires accepted { (W.door wire.old).accepted ≡ 0 }
     requires dialled { (W.door wire.old).dialled ≡ 0 }
     // The wire came to listen at the address; the record is what engine and libraries left that served the script, side by

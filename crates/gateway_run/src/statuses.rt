@@ -13,11 +13,11 @@ pub enum Status {
     Ok,
     /// Memory was wanting. Nothing was written.
     OutOfMemory,
-    /// The words give no command.
+    /// The words give no command that the call carries out.
     Usage,
-    /// The script can't be read.
+    /// A read of the script failed.
     ReadFault,
-    /// It can't be written whole. A beginning of it was.
+    /// A write of the report, or of the summary, failed. A beginning of it was written, if anything.
     WriteFault,
     /// The script is outside the grammar: its first faulty line, from 1, and the fault; line 0 where
     /// the script as a whole is too long.

@@ -135,7 +135,7 @@ pub fn served_headlines_hold()
     ensures headline { (script : Script) (turns : ℕ) (wide : Bool) (old new : Door) (old_links new_links : ℕ → Link) (left : RunRecord) (spent : Option ℕ)
         → Serves script turns wide AnyReadings old new old_links new_links left spent → IsConfig script.config → old.accepted ≡ 0 → old.dialled ≡ 0 → All HasLawfulJournal left.engine.sessions
         → Headline script.config new_links left }
-    // Where no turns were spent nothing is left to wait for.
+    // Where nobody's turns were spent nothing is left to wait for.
     ensures finished { (script : Script) (turns : ℕ) (wide : Bool) (old new : Door) (old_links new_links : ℕ → Link) (left : RunRecord)
         → Serves script turns wide AnyReadings old new old_links new_links left None → old.accepted ≡ 0 → old.dialled ≡ 0 → IsFinished script.config.connections script.config.dials left }
 {

@@ -60,7 +60,7 @@ reader_of h = record { library = h.library; next = h.from; end = h.end }
 unfoldable pub with_holding : Holding → SessionSeen → SessionSeen
 with_holding h seen = if h.library == 0 then seen else record seen { readers = seen.readers ++ reader_of h ∷ [] }
 
--- The body of a session message: its first field is MsgType (35), of one of the seven types. The codes are those of `35=` and SOH.
+-- The body of a session message: its first field is MsgType (35), of one of the seven types. 1 is the code of SOH.
 unfoldable pub is_session_body : List ℕ → Bool
 is_session_body body = bytes_eq (take 3 body) (codes "35=") && is_session_type (take 1 (drop 3 body)) && (slice_index body 4 == 1)
 

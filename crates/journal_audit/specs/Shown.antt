@@ -33,7 +33,7 @@ read_from library pos [] = []
 read_from library pos (body ∷ bodies) = record { library = library; pos = pos; body = body } ∷ read_from library (pos + 1) bodies
 
 -- These were read by a lease of the session. The lease was granted to one library and is one of the holdings. That library read them, one behind another
--- from the position on that the grant names, none beyond the holding's end, and each with the body that the inbound log has there.
+-- from the position on that the grant names, none at or beyond the holding's end, and each with the body that the inbound log has there.
 pub record IsPrefix (session : Journal) (lease : ℕ) (read : List Reading) : Type 0 where
   pub holding : Holding
   pub held : Contains session.holdings holding

@@ -11,15 +11,16 @@ use std::alloc::Global;
 /// The most bytes of a report.
 pub const LONGEST_REPORT: usize = 268_435_456;
 
-/// Whether a report shows a lawful run, or else its first wrong line. Where the end is missing, the
-/// line is the one behind the last.
+/// Whether a report shows a lawful run, or else its first wrong line, counted from 1. Where none is
+/// wrong and the end is missing, the line is the one behind the last.
 #[derive(Clone, Copy, Debug, PartialEq, Eq)]
 pub enum Verdict {
     Yes,
     No { line: u32 },
 }
 
-/// Audits a report. It takes time and memory in proportion to the text.
+/// Audits a report of at most `LONGEST_REPORT` bytes. It takes memory in proportion to the text, and
+/// time as well, but for the ordered maps of answers and of connections.
 pub fn audit(alloc: Global, text: &[u8]) -> Result<Verdict, NoMemory>
     requires { length text.now ≤ LONGEST_REPORT }
     ensures { IfOk result (IsVerdict text.now) }

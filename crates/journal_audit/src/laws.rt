@@ -17,7 +17,7 @@ pub fn journals_are_lawful()
 
 /// In a report with the verdict Yes, what was read by a lease of a session is a beginning of what the
 /// inbound log has from the position on that the lease's grant names. It was read in order, each
-/// message once, by the library that has the lease, and none beyond the end of its holding.
+/// message once, by the library that has the lease, and none at or beyond the end of its holding.
 pub fn reads_are_prefixes()
     ensures { OfEachRight ReadsArePrefixes }
 {

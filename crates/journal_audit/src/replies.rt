@@ -85,7 +85,8 @@ impl Binds {
         Ok(())
     }
 
-    /// Whether a session's journal has a bind of the connection: of this session, or of none.
+    /// Whether this session's journal has a bind of the connection; without a session, whether no
+    /// journal has.
     pub(crate) fn fits(&self, c: u32, s: Option<u16>) -> bool
         ensures { result ≡ fits_binds self.now c s }
     {

@@ -93,7 +93,8 @@ LinesGoOn = (entries : List Entry) (e : Entry) → lines_of (entries ++ e ∷ []
 abbrev pub LeasesHaveLibraries : Type 0
 LeasesHaveLibraries = (limit : ℕ) (entries : List Entry) → IsRun limit entries → 0 < length (lines_of entries) → IsLibrary (last_line (lines_of entries)).library
 
--- A request is granted where no library has the session, a lease is left and the replay begins within the inbound log. The lease is the next one.
+-- A request is granted only where no library has the session, a lease is left and the replay doesn't begin past the inbound log. The
+-- lease is the next one.
 pub record GrantsIn (limit : ℕ) (entries : List Entry) (from lease start : ℕ) : Type 0 where
   pub nobody : owner_by (lines_of entries) ≡ 0
   pub left : length (lines_of entries) < limit

@@ -139,7 +139,7 @@ sent_in_series s = last_or 0 s.series
 abbrev pub sent_in_all : State → ℕ
 sent_in_all s = sum s.series
 
--- So many sends came, in the present series. The inbound log, the series and the connection are as they were.
+-- So many messages more were sent in the present series. The inbound log, the number of series and the connection are as before.
 pub record SentMore (n : ℕ) (s t : State) : Type 0 where
   pub inbound : t.inbound ≡ s.inbound
   pub series : series_of t ≡ series_of s

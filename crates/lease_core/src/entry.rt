@@ -60,7 +60,7 @@ pub enum Entry {
         count: u32,
         heir: u8,
     },
-    /// The engine took the session back from a library that fell silent.
+    /// The engine took the session back from a library after so many sends.
     Timeout {
         lease: u32,
         library: u8,
@@ -92,8 +92,9 @@ pub enum Why {
     MissingMessages { asked: u64, logged: u64 },
 }
 
-/// A span of the inbound log in which one owner answered the session's orders. Library and lease 0
-/// are the engine. A library's replay begins at `from`; the engine's `from` is its start.
+/// A span of the inbound log in which the session had one owner, from `start` on and up to below
+/// `end`. Library and lease 0 are the engine. A library's replay begins at `from`; the engine's
+/// `from` is its start.
 #[derive(Clone, Copy, Debug, PartialEq, Eq)]
 pub struct Holding {
     pub library: u8,

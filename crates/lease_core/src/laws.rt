@@ -8,7 +8,8 @@ pub fn holdings_adjoin()
     ensures { HoldingsAdjoin }
 {}
 
-/// Whatever happened to a session, each of its leases but the last has ended.
+/// Whatever happened to a session, each of its leases but the last has ended, and they are no more
+/// than can be given.
 pub fn one_owner_at_a_time()
     ensures { OneOwner }
 {}
@@ -34,22 +35,24 @@ pub fn lines_tell_the_owner()
     ensures lease { LinesTellLease }
 {}
 
-/// A lease is a library's, and a request is granted only where no library has the session and a lease is
-/// left to give.
+/// The last lease is a library's. A request is granted only where no library has the session, a
+/// lease is left to give and the replay doesn't begin past the inbound log. It gets the next lease.
 pub fn grants_find_nobody()
     ensures libraries { LeasesHaveLibraries }
     ensures grants { GrantsFindNobody }
 {}
 
-/// The word of a journal is shown by it. A word that the engine reads, which its lines then stand
-/// for, meets what `Registry::show` and `Registry::timeout` ask.
+/// The word of a journal's lines is shown by them. A word with an owner of at most
+/// `MOST_LIBRARIES`, for which the lines stand once they are raised by it, meets `showable` of
+/// `Registry::show` and, where a library has the session, `can_time_out` of `Registry::timeout`.
 pub fn words_fit_their_lines()
     ensures shown { WordsAreShown }
     ensures showable { WordsAreShowable }
     ensures can_time_out { WordsCanTimeOut }
 {}
 
-/// The number of a word stands for that word and no other.
+/// The number of a word whose owner is below 64 and whose count is below 2^32 stands for that word
+/// and no other, and a number without both flags is that of the word for which it stands.
 pub fn words_are_numbers()
     ensures read { WordsAreRead }
     ensures written { WordsAreWritten }

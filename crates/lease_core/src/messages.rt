@@ -6,6 +6,8 @@ use gate_io::Bytes;
 /// The answer to a request for a session.
 #[derive(Clone, Copy, Debug, PartialEq, Eq)]
 pub enum Reply {
+    /// The library gets the session by this lease. The inbound log has the length `start` as it is
+    /// granted.
     Granted { lease: u32, start: u64 },
     Refused(Why),
 }
@@ -22,6 +24,8 @@ pub enum Command {
 /// What the engine tells a library.
 #[derive(Debug, Drop)]
 pub enum Notice {
+    /// The request `nr` was granted by that lease, with the log from `from` on replayed. The
+    /// inbound log had the length `start` then.
     Granted {
         nr: u32,
         s: u16,

@@ -3,9 +3,10 @@
 use crate::Entry;
 use gate_io::Bytes;
 
-/// An entry as it is kept for recovery: of session `s`, made at the moment `at` where the entry has
-/// one, with the body that was accepted or sent. `expected` is the session's expected number
-/// behind the call that made the entry.
+/// An entry as it is kept for recovery: of session `s`, made at the moment `at`, which is 0 but for
+/// an `Admin`, a `Send` and a `Plan`, with the body that was accepted or sent, if one was.
+/// `expected` is the session's expected number behind the call that made the entry; of the `Bind`
+/// of an accepted connection it is the number before that call.
 #[derive(Debug, Drop)]
 pub struct Record {
     pub s: u16,

@@ -15,8 +15,8 @@ use gate_io::NoMemory;
 use std::alloc::Global;
 use std::marker::Model;
 
-/// What a word added to a journal: how many sends, the number of the first one in the present
-/// series, and whether the lease ended.
+/// What a word added to a journal: how many sends, the number in the present series that the first
+/// of them has or would have, and whether the lease's end was recorded.
 #[derive(Clone, Copy, Debug, PartialEq, Eq)]
 pub struct Shown {
     pub first: u64,
@@ -25,9 +25,11 @@ pub struct Shown {
 }
 
 /// The journal of a session. Contracts see its entries, how many leases can be given, and for how
-/// many more entries it has room. Each call appends the one entry that follows from those before
-/// it and takes a number of steps that doesn't grow with the journal, and no call but `new` and
-/// `reserve` takes memory.
+/// many more entries it has room. A call for an event appends the one entry that follows from it
+/// and from those before it; `show` and `timeout` append what the word adds, a send for each that
+/// is missing and at most two entries for the lease's end. `resume` wants room for one entry,
+/// whether or not a hold is missing. But for `reserve`, the steps of a call grow with the entries
+/// that it appends and not with the journal, and no call but `new` and `reserve` takes memory.
 #[derive(Debug, Drop)]
 pub struct Registry {
     journal: Journal,
@@ -215,8 +217,9 @@ impl Registry {
         reply
     }
 
-    /// Records the sends and the end that a word of the last lease shows. Where it shows that the
-    /// session was given back to an heir, the session waits for that one until the moment `until`.
+    /// Records what a word of the last lease shows: the sends that are missing, and that the
+    /// session was given back. Where that was to an heir, the session waits for that one until the
+    /// moment `until`. Where the lease has ended already, nothing is recorded.
     pub fn show(&mut self, w: Word, until: u64) -> Shown
         requires room { missing_sends (lines_of self.old.entries) w + 2 ≤ self.old.spare }
         requires showable { IsShowable (lines_of self.old.entries) w }
@@ -246,8 +249,8 @@ impl Registry {
         }
     }
 
-    /// Records the sends that the old word of the last lease shows, and that the engine took the
-    /// session back, unless the library gave it back before.
+    /// Records what the old word of the last lease shows, as `show` does, and then that the engine
+    /// took the session back, unless the word shows that the library gave it back before.
     pub fn timeout(&mut self, old: Word, until: u64) -> Shown
         requires room { missing_sends (lines_of self.old.entries) old + 2 ≤ self.old.spare }
         requires can_time_out { CanTimeOut (lines_of self.old.entries) old }

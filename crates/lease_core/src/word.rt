@@ -54,7 +54,8 @@ fn standing_in(n: u64) -> Standing
     }
 }
 
-/// The number that stands for a word.
+/// The number that stands for a word whose lease is below 2^24 and whose owner is below 64. At most
+/// one of its two flags is set, and `read_word` gives the word again.
 pub fn write_word(w: Word) -> u64
     requires lease { w.lease < 2 ^ 24 }
     requires owner { w.owner < 64 }

@@ -191,8 +191,8 @@ impl LeaseDesk {
     }
 }
 
-/// Takes the items that the last look or revoke of a session showed, each with its body behind those
-/// that are there, which have room for them.
+/// Takes the items that the last look or revoke of a session showed and that weren't taken yet, and
+/// puts their bodies in order into an empty list, which has room for them.
 fn take_all(leases: &Leases, seat: &mut EngineSeat, s: u16, bodies: &mut VecDeque<Bytes>)
     requires table { seat.old.table ≡ leases.now }
     requires session { s < leases.now.shape.sessions }

@@ -44,7 +44,8 @@ impl Leases {
         ensures showable { IsShowable (engine_at seat.old s).lines result }
         ensures pending { pending (engine_at seat.new s) ≡ pending (engine_at seat.old s) + missing_sends (engine_at seat.old s).lines result }
 
-        // At most as many sends as the lane is deep weren't taken, all of them the last lease's.
+        // At most as many sends as the lane is deep weren't taken, all of them by the last lease's
+        // library.
         ensures within { pending (after_look (engine_at seat.old s) result) ≤ self.now.shape.depth }
         ensures others { OthersTaken self.now.shape.libraries (after_look (engine_at seat.old s) result) }
         ensures settled { Each (IsSettled s (after_look (engine_at seat.old s) result)) seat.old.settled }
@@ -59,8 +60,10 @@ impl Leases {
         word
     }
 
-    /// Takes a session back, and answers the word as it was. The seat's lines are raised by what
-    /// it shows; then the last one is taken back where it was still active.
+    /// Takes a session back of which a lease is active by the seat's lines, and answers the word as
+    /// it was. The lines are raised by what that shows; then the last one is taken back where the
+    /// word was still active, and stays given back where its library was faster. No lease is active
+    /// then.
     pub fn revoke(&self, seat: &mut EngineSeat, s: u16) -> Word
         requires table { seat.old.table ≡ self.now }
         requires session { s < self.now.shape.sessions }
@@ -92,9 +95,9 @@ impl Leases {
         word
     }
 
-    /// Grants a session to a library, and answers the new lease, which is the number of lines
-    /// after the call. No lease may be active, and all that the last look or revoke showed has to
-    /// be taken.
+    /// Grants a session to a library of the table, and answers the new lease, which is the number
+    /// of lines after the call. By the seat's lines no lease may be active, and fewer than
+    /// `MOST_LEASES` may have been given; all sends that they show have to be taken.
     pub fn grant(&self, seat: &mut EngineSeat, s: u16, library: u8) -> u32
         requires table { seat.old.table ≡ self.now }
         requires session { s < self.now.shape.sessions }
@@ -166,7 +169,8 @@ impl Leases {
         item
     }
 
-    /// Publishes the length of a session's inbound log.
+    /// Publishes the length of a session's inbound log, which mustn't be less than the one that was
+    /// published last, 0 at first.
     pub fn publish(&self, seat: &mut EngineSeat, s: u16, count: u64)
         requires table { seat.old.table ≡ self.now }
         requires session { s < self.now.shape.sessions }

@@ -32,7 +32,8 @@ pub struct Lost {
 /// Why a send was refused.
 #[derive(Clone, Copy, Debug, PartialEq, Eq)]
 pub enum SendError {
-    /// As many items as the lane is deep were sent and not yet taken.
+    /// By the taken count that was loaded, as many items as the lane is deep were sent and not yet
+    /// taken.
     LaneFull { committed: u64, taken: u64 },
     /// The lease made as many sends as it can.
     SendsSpent { count: u32 },

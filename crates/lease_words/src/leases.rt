@@ -7,9 +7,9 @@ use std::alloc::Global;
 use std::fmt;
 use std::marker::Model;
 
-/// The leases, lanes, published counts and beats that an engine and its libraries share. Each
-/// call takes `&self` and the seat of whoever makes it; none waits, and none but `new` and `resume`
-/// takes memory.
+/// The leases, lanes, published counts and beats that an engine and its libraries share. `new` and
+/// `resume` alone take memory. Every other call takes `&self` and the seat of whoever makes it,
+/// `meet` and `settle` those of both sides, and `libraries` none. None waits.
 #[derive(Drop)]
 pub struct Leases {
     pub(crate) table: Table<Option<Item>, View, Shape, OneOwner, Global>,

@@ -19,10 +19,10 @@ use lease_core::{MOST_LIBRARIES, read_word};
 const COUNTS: u64 = 1 << 32;
 
 impl Leases {
-    /// Sends an item by the lease that it names, which the seat has to hold. The item is sent
-    /// exactly where this lease is still active. Where it isn't sent it comes back, with the first
-    /// cause that applies: its lane is full, the lease has made all its sends, or the lease has
-    /// ended; then the seat holds it no longer.
+    /// Sends an item by the lease that it names, which the seat has to hold. Where it isn't sent it
+    /// comes back, with the first cause that applies: its lane is full by the taken count that is
+    /// loaded, the lease has made all its sends, or the lease has ended, by another word that was
+    /// found in the place of its own. In the last case the seat holds the lease no longer.
     pub fn send(
         &self,
         seat: &mut LibrarySeat,

@@ -23,7 +23,7 @@ pub record Belongings : Type 0 where
 abbrev pub belongings : EndsView → Belongings
 belongings e = record { leases = e.seat.table; commands = e.tail.ring; notices = e.head.ring }
 
--- the session is one of the table's, and the seat was changed so in it; another seat stays
+-- the seat with this of a session, or as it was where the table has no such session
 abbrev pub with_session : LibraryView → ℕ → LibrarySession → LibraryView
 with_session seat s ls = if nat_lt s seat.table.shape.sessions then with_library_at seat s ls else seat
 

@@ -42,7 +42,8 @@ abbrev pub PostsAreSent : Type 0
 PostsAreSent = (s : ℕ) (k : Known) (calls : List Call) → AreLawful k calls
     → posts_by (session_at (after_calls k calls) s).items ≡ posts_by (session_at k s).items ++ posts_of s k calls
 
--- Where a lease's grant and messages are in order among the notices, the messages of it that are handed on have the positions from its grant's on without a gap.
+-- Where a lease's grant and messages are in order among the notices, the messages of it that are handed on have the positions from
+-- the next one on, or where the lease isn't granted yet from its grant's, without a gap.
 abbrev pub ReadsHaveNoGap : Type 0
 ReadsHaveNoGap = (s lease : ℕ) (next : Option ℕ) (k : Known) (calls : List Call) → 0 < lease → s < reading_count → length k.readings ≡ reading_count
     → AreLawful k calls → IsSeated s k → IsAt s lease next k → AreInOrder s lease next (notices_of k calls)

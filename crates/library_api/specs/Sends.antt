@@ -92,7 +92,7 @@ LaneIsFull k s taken = length (session_at k s).items ≡ taken + k.ends.seat.tab
 abbrev pub LeaseIsSpent : Known → ℕ → Type 0
 LeaseIsSpent k s = sends_made k s ≡ k.ends.seat.table.shape.sends
 
--- Why a send was refused, and what numbers the refusal carries. The causes are tried in this order.
+-- Which refusal of a send it is.
 abbrev pub IsNotHeld : SendRefusal → Type 0
 IsNotHeld NotHeld = Unit {0}
 IsNotHeld (TooLong size) = ⊥

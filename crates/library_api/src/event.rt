@@ -14,7 +14,8 @@ pub enum Event {
         pos: u64,
         published: u64,
     },
-    /// The request `nr` got the session, whose messages come from position `from` on.
+    /// The request `nr` got the session, whose messages come from position `from` on. The inbound
+    /// log had the length `start` as it was granted.
     Granted {
         nr: u32,
         s: u16,
@@ -41,7 +42,9 @@ pub enum Event {
         lease: u32,
         pos: u64,
     },
-    /// The lease of a message or of a grant has ended, by the word that was seen.
+    /// The word that was seen doesn't show the lease of a message or of a grant as active and this
+    /// library's. A message is dropped, a grant closes its request all the same, and the library
+    /// holds no lease of the session then.
     LeaseLost {
         s: u16,
         lease: u32,

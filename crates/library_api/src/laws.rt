@@ -29,14 +29,16 @@ pub fn replies_close_requests()
     ensures number { RepliesAreOfTheOpen }
 {}
 
-/// What a library reads next of a session follows from the events of its polls: from the position
-/// of a grant on, and one further with each message, until the lease is lost.
+/// What a library reads next of a session below 64 follows from the events of its polls: from the
+/// position of a grant on, and one further with each message, until the lease is lost.
 pub fn readings_follow_events()
     ensures { ReadingsFollowEvents }
 {}
 
-/// The messages of a lease that a library's polls hand on have the positions from its grant's on,
-/// in order and without a gap, where the lease's grant and messages are in order among the notices.
+/// The messages of a lease, of a session below 64, that a library's polls hand on have the
+/// positions from the next one on (its grant's, where that is still to come), in order and without
+/// a gap, where the lease's grant and messages are in order among the notices, and the library's
+/// record of the session agrees with its seat to begin with.
 pub fn reads_have_no_gap()
     ensures reads { ReadsHaveNoGap }
     ensures beginnings { BeginningsAreInOrder }

@@ -22,7 +22,8 @@ pub enum SendRefusal {
     TooLong { length: usize },
     /// The body isn't one that an application may send, by the field or fault at this place.
     BadBody { at: usize },
-    /// As many messages as the lane is deep were sent and not yet taken.
+    /// By the taken count that was loaded, as many messages as the lane is deep were sent and not
+    /// yet taken.
     LaneFull { committed: u64, taken: u64 },
     /// The lease made as many sends as it can.
     SendsSpent { count: u32 },

@@ -37,7 +37,8 @@ impl Library {
     }
 
     /// Gives a session back for another library to take, its heir: until a moment that the engine
-    /// sets, or until it is granted, only that library gets it.
+    /// sets, or until it is granted, only that library gets it. Once it is given back, and after
+    /// `Lost`, this library holds no lease of the session.
     pub fn release_to(&mut self, links: &Links, s: u16, heir: u8) -> Result<Released, HandRefusal>
         requires links { self.old.ends.seat.table ≡ links.now.leases.now }
         ensures handed { OnOk result (self.new ≡ after_giving_back self.old s heir heir) }

@@ -15,8 +15,8 @@ pub struct Expired {
     pub since: u64,
 }
 
-/// Which libraries fell silent. Each counts its beats; one whose beat stands still for the timeout
-/// has expired, and stays so until the beat moves. Times are in milliseconds.
+/// Which libraries fell silent. Each counts its beats; one has expired at a moment at which its
+/// beat is the kept one, and has stood for at least the timeout. Times are in milliseconds.
 #[derive(Debug, Drop)]
 pub struct Watch {
     timeout: u64,

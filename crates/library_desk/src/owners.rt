@@ -11,7 +11,7 @@ use switchboard::Switchboard;
 const NUMBERS: usize = 256;
 
 /// Which library has each session, or 0 for the engine, by the sessions' numbers: so that a turn
-/// looks each session's journal up once and not for each library.
+/// needn't look each session's journal up for each library.
 #[derive(Debug, Drop)]
 pub struct Owners {
     owners: [u8; MOST_SESSIONS],

@@ -29,9 +29,10 @@ pub enum LibTurn {
 
 impl LibraryDesk {
     /// Serves a library in a turn: its beat is heard; where it fell silent, its sessions are taken back;
-    /// where its ring has room, one of its commands is popped and answered; and the sessions that it
-    /// has are pumped. Behind the moment `until` a hold lapses. Without memory what was done stays, each
-    /// event whole. Who has each session is handed on as it is then.
+    /// where its ring of notices has room, its next command is popped if there is one, and answered if
+    /// it is a request; and the sessions that it has are pumped. A hold that a taking back makes lapses
+    /// at the moment `until`. Behind Ok `owners` tells who has each session then. Without memory what
+    /// was done stays, each event whole, and a request that was popped may have no answer.
     pub fn serve(
         &mut self,
         alloc: Global,
@@ -61,7 +62,7 @@ impl LibraryDesk {
         Ok(turn)
     }
 
-    // Pops a library's next command, where there is room for a notice, and answers it.
+    // Pops a library's next command, where there is room for a notice, and answers a request.
     fn answer(
         &mut self,
         shared: &Shared,

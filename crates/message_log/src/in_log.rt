@@ -46,7 +46,8 @@ impl InLog {
         self.bodies.reserve(alloc, n)
     }
 
-    /// Puts a body at the end, and answers its position. With spare places it takes no memory.
+    /// Puts a body at the end, and answers its position. With spare places it takes no memory;
+    /// without memory the body is dropped.
     pub fn push(&mut self, alloc: Global, body: Vec<u8>) -> Result<u64, NoMemory>
         ensures ok { OnOk result (self.new.items ≡ self.old.items ++ body.items ∷ []) }
         ensures position { IfOk result (λ pos. pos ≡ length self.old.items) }

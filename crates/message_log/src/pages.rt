@@ -14,7 +14,7 @@ use std::sync::ledger::Ledger;
 /// How many items a page has.
 pub const PAGE: usize = 1024;
 
-/// How many pages there are at most, so that a length is below 2^63.
+/// How many pages there are at most, so that a length is at most 2^63.
 const MOST_PAGES: usize = 9_007_199_254_740_992;
 
 /// A list that grows at its end, on pages of `PAGE` items. A push moves no item of a full page.

@@ -83,7 +83,7 @@ abbrev pub LineCalls : LibStep → ℕ → List Call → ℕ → Type 0
 LineCalls line zero own left = (own ≡ []) × IsFirst line left
 LineCalls line (suc n) own left = HasOneMore line (LineCalls line n) own left
 
--- the next line of a plan has its calls, of which nothing is left
+-- the next line of a plan has its calls, which leave so much of that line
 pub record HasLine (number : ℕ) (plan : List Step) (at : ℕ) (SoFar : List Call → Type 0) (left : ℕ) (reported : List Call) : Type 0 where
   pub before : List Call
   pub so_far : SoFar before

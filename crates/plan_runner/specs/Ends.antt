@@ -38,7 +38,7 @@ pub record HasTold (finished : Bool) (library : Known) : Type 0 where
   pub before : List Command
   pub last : library.ends.tail.pushed ≡ before ++ commands.Done finished ∷ []
 
--- so many calls in a row waited for room for that word
+-- at least so many calls in a row waited for room for that word
 pub record WaitsToTell (turns : ℕ) (library : Known) : Type 0 where
   pub kind : library.waited.kind ≡ waits.Done
   pub count : turns ≤ library.waited.count

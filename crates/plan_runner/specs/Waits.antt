@@ -18,6 +18,7 @@ abbrev pub EndsIdle : ℕ → List Call → Type 0
 EndsIdle zero calls = Unit {0}
 EndsIdle (suc n) calls = (before : List Call) × (last : Call) × (calls ≡ before ++ last ∷ []) × (is_idle_poll last ≡ true) × EndsIdle n before
 
--- A library that waits for an event has waited so many calls more than those with which its report ends, or as many as are counted.
+-- A library that waits for an event has waited at least so many calls more than the idle polls with which its report ends, or as many as
+-- are counted.
 abbrev pub CountsIdle : ℕ → List Call → Waits → Type 0
 CountsIdle turns calls waited = waited.kind ≡ waits.Event → (n : ℕ) → EndsIdle n calls → min (n + turns) most_waits ≤ waited.count

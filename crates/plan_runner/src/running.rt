@@ -28,6 +28,9 @@ use std::alloc::Global;
 /// library had waited before that.
 ///
 /// Without memory no further line is carried out, the engine is told so, and what was done is reported with the error.
+///
+/// `turns` is at least 1. `number` is that of the library's seat, and the plan has `lib` lines of this number alone.
+/// No request of the library is open. The links are to the lease table of its seat and to the two rings of its ends.
 pub fn run_plan<G: Gate>(
     alloc: Global,
     library: &mut Library,

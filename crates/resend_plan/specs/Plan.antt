@@ -19,7 +19,7 @@ item_of series at before n entry behind =
     then (if before then [] else GapFill series n (n + 1 + leading_sessions behind) at ∷ [])
     else Again series n at ∷ []
 
--- The items of entries whose numbers begin at n. The first truth value says whether a session entry of the range stands before them.
+-- The items of entries whose numbers begin at n. The truth value says whether a session entry of the range stands directly before them.
 abbrev pub items_from : ℕ → ℕ → Bool → ℕ → List OutEntry → List WireItem
 items_from series at before n [] = []
 items_from series at before n (entry ∷ entries) =

@@ -1,4 +1,4 @@
--- The body of a message as it is written: its type, the rest of the header, and then the rest of its entry.
+-- The body of a message as it is written: its type, the rest of the header, and then the rest of its entry, or that of a gap fill.
 use Rattle.std.specs.Prelude.{ℕ, false, ◌==◌, if◌then◌else◌, min, List, [], ◌∷◌, ◌++◌, codes, decimal, Option, Some, None, unwrap_or, IsSome}
 use Rattle.fix_fields.specs.Field.{field_text}
 use Rattle.fix_fields.specs.Stamp.{stamp_of}

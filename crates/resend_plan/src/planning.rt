@@ -13,8 +13,9 @@ use std::marker::Brand;
 use std::sync::ledger::{Blank, Ledger};
 
 /// The items that answer a ResendRequest for the numbers from `begin` to `last` of a series, sent at
-/// a moment. A `last` of 0, or past the end, stands for the end. Its cost is that of the items: it
-/// goes over each run of session entries in one step.
+/// a moment. A `last` of 0, or past the end, stands for the end. For each item the log is asked once
+/// where a stretch ends (`stretch_end` says how many look-ups that takes), so a run of session
+/// entries costs what one entry does. No clause counts that.
 pub fn plan(
     alloc: Global,
     log: &OutLog,

@@ -23,7 +23,8 @@ const SOH: u8 = 1;
 const ROOM: usize = 256;
 
 /// The body of an item as it is written: its type field, then sender, target, number and times, then
-/// the rest of the logged body as it is.
+/// the rest. Of an entry that is the rest of the logged body as it is. A gap fill has no entry: its type
+/// is SequenceReset (35=4), and its rest GapFillFlag (123) and NewSeqNo (36).
 pub fn wire_body(
     alloc: Global,
     item: &WireItem,

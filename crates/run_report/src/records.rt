@@ -13,13 +13,15 @@ use std::alloc::Global;
 #[derive(Debug, Drop)]
 pub struct LibReport {
     pub number: u8,
-    /// Its calls in order, but for those that were made again.
+    /// Its calls in order. Of a served run those are left out whose answer has them made again, and the
+    /// calls that tell the engine that all is done.
     pub calls: Rows<Call>,
     /// How many messages its polls gave.
     pub reads: u64,
-    /// Whether it carried out its whole plan.
+    /// Of a served run, whether the library carried out its whole plan. Of a run on one thread it is
+    /// always true, also where that stopped for want of memory.
     pub finished: bool,
-    /// How long it had waited at the end.
+    /// How long it had waited at the end, and of a served run before the engine was told.
     pub waited: Waited,
 }
 

@@ -58,7 +58,7 @@ pub record StartsAll (asks : ℕ) (shared : Shared) (ends : List LibraryEnds) (c
   pub count : length callers ≡ length ends
   pub each : (place : ℕ) (caller : Caller) → slice_get callers place ≡ Some caller → StartsCaller asks shared place caller
 
--- a clock that stands at no moment, and wasn't read
+-- a clock that stands at 0, and wasn't read
 abbrev pub first_clock : ClockState
 first_clock = record { moment = 0; last = 0; greatest = 0; readings = 0 }
 
@@ -69,7 +69,7 @@ pub record StartsRun (config : Config) (moment : ℕ) (shared : Shared) (run : R
   pub wire : run.wire ≡ new_wire
   pub clock : run.clock ≡ first_clock
 
--- what a run leaves of a library: it made all its calls
+-- What a run leaves of a library: the calls that it made. `finished` is always true, also where memory was wanting earlier.
 abbrev pub report_of : Caller → LibReport
 report_of caller = record { number = caller.number; calls = caller.calls.items; reads = reads_of caller.calls.items; finished = true; waited = caller.library.waited }
 

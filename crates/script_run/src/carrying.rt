@@ -22,6 +22,11 @@ use std::alloc::Global;
 /// Carries out a script on one thread: the engine over a wire and a clock in memory, and the libraries, whose
 /// calls meet the engine. It takes time in proportion to the script and to what follows from it. Without
 /// memory the run ends and leaves what there is, each journal lawful.
+///
+/// The script is a lawful one of `replay`, as is each that `read_script` reads for it, and each drill: an
+/// engine can be started with its configuration, which has names as a script has them, a connection for each
+/// `connect` line, and as many dials as can be; each step is one of `replay` and fits behind those before it;
+/// and sessions and steps have the numbers of their lines, in rising order.
 pub fn carry_out(alloc: Global, script: Script) -> Result<RunRecord, (NoMemory, RunRecord)>
     requires lawful { IsLawful false script }
     ensures means { IfOk result (Means script) }

@@ -15,7 +15,7 @@ use gate_io::{MemWire, NoMemory};
 use script_text::Step;
 use std::alloc::Global;
 
-/// The room for written bytes that each connection has at the beginning of a turn.
+/// For how many written bytes, at least, each connection that isn't closed has room as a turn begins.
 const ROOM: usize = 1_048_576;
 
 /// What a step does at the wire. One of the clock, of the engine or of a library does nothing there.
@@ -49,7 +49,7 @@ pub(crate) fn come(
     Ok(())
 }
 
-/// Bytes can be read from a connection.
+/// Bytes can be read from a connection, unless its input was ended or it is closed.
 fn give(alloc: Global, wire: &mut MemWire, c: u32, bytes: &[u8]) -> Result<(), NoMemory>
     requires made { IsMade wire.old c }
     ensures comes { OnOk result (ChangesLink wire.old c (link_given (state_at wire.old c) bytes.now) wire.new) }
@@ -61,7 +61,7 @@ fn give(alloc: Global, wire: &mut MemWire, c: u32, bytes: &[u8]) -> Result<(), N
     wire.give(alloc, c, bytes)
 }
 
-/// The frame of a body can be read from a connection.
+/// The same of the frame of a body.
 fn give_frame(alloc: Global, wire: &mut MemWire, c: u32, body: &[u8]) -> Result<(), NoMemory>
     requires made { IsMade wire.old c }
     requires is_body { IsBody body.now }
@@ -78,7 +78,7 @@ fn give_frame(alloc: Global, wire: &mut MemWire, c: u32, body: &[u8]) -> Result<
     }
 }
 
-/// There is room for what a turn writes.
+/// Each connection that isn't closed has room for what a turn writes to it.
 pub(crate) fn make_room(alloc: Global, wire: &mut MemWire) -> Result<(), NoMemory>
     ensures room { OnOk result (wire.new ≡ wire_reserved ROOM wire.old) }
     ensures stays { StaysKnown wire.old wire.new }

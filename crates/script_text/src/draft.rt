@@ -127,7 +127,7 @@ impl Draft {
         self.limits.libraries
     }
 
-    /// Whether no line but those of the configuration was read.
+    /// Whether no line that is a step was read.
     pub(crate) fn has_no_steps(&self) -> bool
         ensures { result ≡ no_steps self.now }
     {

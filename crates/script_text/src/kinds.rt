@@ -14,19 +14,25 @@ use std::fmt;
 pub enum ScriptKind {
     /// A byte isn't printable.
     BadByte = 1,
-    /// The word that names the line isn't a word of the grammar.
+    /// The first word, the second of an `option` line or the third of a `lib` line isn't a word
+    /// of the grammar in that place, or it is empty.
     UnknownWord = 2,
-    /// A word is missing, empty or too many.
+    /// A word or a text is missing, a word other than those three is empty, or one is too many. A text
+    /// may be empty.
     BadShape = 3,
     /// A number or a timestamp isn't one.
     BadNumber = 4,
-    /// A name or a text isn't one, or the text of a frame isn't a body.
+    /// A name or an address isn't a name, a `\` of a text has no two lower-case hexadecimal digits
+    /// behind it, or the text of a `frame` line isn't a body whose frame has at most `LONGEST_FRAME`
+    /// bytes.
     BadText = 5,
-    /// A number is outside its range, names a library or connection that isn't there, or it is one
-    /// line too many.
+    /// A number is outside its range, or names a library or a connection that isn't there; an earlier
+    /// session has both names of this one; or a `session`, `dial`, `connect` or `take` line is one too
+    /// many.
     OutOfRange = 6,
-    /// A line of the configuration stands behind another line, or it is a line of the other
-    /// command.
+    /// A line of the configuration stands behind a step, or it is a line of the other command:
+    /// `connections`, `dials`, `answer` and `read` are of `serve` alone, and steps other than a
+    /// library's are of `replay` alone.
     Misplaced = 7,
     /// The clock would go back.
     Backward = 8,

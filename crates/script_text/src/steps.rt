@@ -12,9 +12,9 @@ pub enum Step {
     Connect,
     /// One more dial succeeds: its connection, the next from gate_io's `FIRST_DIALLED` on, is made.
     Take,
-    /// These bytes can be read from connection `c`.
+    /// These bytes can be read from connection `c`, unless its input was ended or it is closed.
     Bytes { c: u32, bytes: Bytes },
-    /// The frame of this body can be read from connection `c`.
+    /// The same of the frame of this body.
     Frame { c: u32, body: Bytes },
     /// The input of `c` ends behind its bytes.
     Finish { c: u32 },

@@ -22,7 +22,7 @@ pub record HeldItems (T : Type 0) : Type 0 where
   pub taking : (line : Line T) (k : ℕ) (x : T) → get (after_taking line).held k ≡ Some x → get line.held k ≡ Some x
   pub clear : (line : Line T) (k : ℕ) → get (after_clear line).held k ≡ None
 
--- how many are held
+-- how many are held at most
 pub record HeldCounts (T : Type 0) : Type 0 where
   pub at_first : len (fresh_line {T = T}).held ≡ 0
   pub offer : (line : Line T) (n : ℕ) (item : T) → len (after_offer line n item).held ≤ len line.held + more_held (place_of line n item)

@@ -55,7 +55,8 @@ impl<T> Expect<T> {
         self.expected
     }
 
-    /// Offers the item that came with number n. FIX 4.4, volume 2, "Ordered Message Processing".
+    /// Offers the item that came with number n, which is from 1 to `MAX_NUMBER`. FIX 4.4, volume 2,
+    /// "Ordered Message Processing".
     pub fn offer(&mut self, n: u32, item: T) -> Offered<T>
         requires { IsNumber n }
 
@@ -136,7 +137,8 @@ impl<T> Expect<T> {
 
 impl<T: Drop> Expect<T> {
     /// Counts the numbers below `to` as a whole, as a gap fill or a reset says, and drops what is
-    /// held of them. The horizon stays.
+    /// held of them. `to` is from the expected number to one more than `MAX_NUMBER`. What is held
+    /// from it on stays, and so does the horizon.
     pub fn fill(&mut self, to: u32)
         requires forward { self.old.expected ≤ to }
         requires to_end { to ≤ MAX_NUMBER + 1 }

@@ -8,12 +8,12 @@ pub fn lines_stay_lines<T>()
     ensures { LinesStayLines T }
 {}
 
-/// Which items are held behind each call: those that were held before, and the one that came early.
+/// Which items can be held behind each call: those that were held before, and the one that came.
 pub fn held_items<T>()
     ensures { HeldItems T }
 {}
 
-/// How many items are held behind each call.
+/// How many items are held at most behind each call.
 pub fn held_counts<T>()
     ensures { HeldCounts T }
 {}

@@ -16,11 +16,11 @@ use gate_io::{Accepted, Clock, Dial, NoMemory, WireGot};
 use library_desk::{LibTurn, Shared};
 use std::alloc::Global;
 
-// For how many milliseconds the wire may wait behind a turn in which nothing happened.
+// For how many milliseconds the wire may wait behind a turn that was idle.
 const PAUSE: u32 = 1;
 
 /// Makes turns until all that the run waits for has come, or as many were made, and answers whether it has come.
-/// Behind a turn in which nothing happened the wire may wait.
+/// Behind an idle turn the wire may wait.
 pub(crate) fn drive<W: Dial, C: Clock>(
     alloc: Global,
     shared: &Shared,
@@ -75,7 +75,7 @@ fn turn<W: Dial, C: Clock>(
     Ok(turn)
 }
 
-/// Whether no connection came in a turn, and nothing was read, answered or written.
+/// Whether in a turn no connection was accepted, no byte read or written, and no request answered.
 fn is_idle(turn: &Turn) -> bool {
     let came = matches!(turn.accepted, Accepted::New(_));
     !came

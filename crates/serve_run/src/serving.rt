@@ -46,6 +46,11 @@ pub struct Served {
 /// library gives its plan up at a line that had as many waiting turns.
 ///
 /// Without memory the run ends, once the libraries have ended too, and leaves what there is, each journal lawful.
+///
+/// The script is a lawful one of `serve`, as is each that `read_script` reads for it: an engine can be started with
+/// its configuration, which has names as a script has them; each step is a line of a library that is there; and
+/// sessions and steps have the numbers of their lines, in rising order. `turns` is at least 1. No connection was
+/// accepted or dialled over the wire before.
 pub fn serve_script<R: Threads + Sync, W: Dial + Send, C: Clock + Send, G: Gate + Sync>(
     rt: &R,
     alloc: Global,
@@ -57,7 +62,7 @@ pub fn serve_script<R: Threads + Sync, W: Dial + Send, C: Clock + Send, G: Gate 
 ) -> Result<Served, (NoMemory, RunRecord)>
     requires lawful { IsLawful true script }
     requires turns { 1 ≤ turns }
-    // Nothing came at the wire before.
+    // No connection was accepted or dialled over the wire before.
     requires accepted { (W.door wire.old).accepted ≡ 0 }
     requires dialled { (W.door wire.old).dialled ≡ 0 }
     ensures serves { IfOk result (λ served. Serves script turns (G.open_wide gate.now) (λ readings. TakesReadings C.has_read clock.old readings clock.new) (W.door wire.old) (W.door wire.new) (W.link wire.old) (W.link wire.new) served.run served.spent) }

@@ -48,7 +48,8 @@ pub record IsTimed (log : List (List OutEntry)) (wait : ℕ) (entries : List Pla
   pub named : All (NamesEntry log) (flat_map (items_at log) entries)
   pub beats : BeatsBehind log wait [] entries
 
--- the milliseconds of the HeartBtInt on which the Logon of a connection agreed, 0 where none was answered
+-- the milliseconds of the HeartBtInt on which the Logon of a connection agreed, of the session's own while that of a dialled one isn't answered, and 0
+-- where the session is off behind what was handled
 abbrev pub wait_of : State → Handled → ℕ
 wait_of machine h = 1000 * heart_in (behind_all (after_ask machine 0) h.bodies).phase
 

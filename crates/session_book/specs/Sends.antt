@@ -35,6 +35,6 @@ pub record AreSendsOf (library : ℕ) (before : List Entry) (sends : List OutEnt
   pub logged : All (HasSend book.outbound) (placed_from (state_of before) added)
   pub sends_are : flat_map (sent_at library book.outbound) (placed_from (state_of before) added) ≡ sends
 
--- the bodies that were taken, as they are logged, where it is this library that has the session
+-- the bodies that were taken, as they are logged, where the last lease of the session is this library's
 abbrev pub new_sends : ℕ → Book → ℕ → List (List ℕ) → List OutEntry
 new_sends library book at bodies = if (last_lease (state_of book.entries).leases).library == library then map (sent_entry at) bodies else []

@@ -14,7 +14,7 @@ use std::alloc::Global;
 use std::marker::Model;
 
 /// Which entries of a session's journal were handed out as records, and the expected number of each
-/// that came since. It stands beside one `SessionBook`, and each of its calls is given that one.
+/// that was noted since. It stands beside one `SessionBook`, and each of its calls is given that one.
 #[derive(Debug, Drop)]
 pub struct Unkept {
     handed: usize,
@@ -70,8 +70,9 @@ impl Unkept {
         Ok(())
     }
 
-    /// The record of each entry that came since records were handed out last, in order, for session `s`.
-    /// It takes time in proportion to these entries and their bodies.
+    /// The record of each entry that wasn't handed out, in order, for session `s`. All entries that
+    /// there are have to be noted. It takes time in proportion to those that it records, and their
+    /// bodies.
     pub fn records(
         &self,
         alloc: Global,

@@ -72,9 +72,10 @@ impl Revival {
         self.recovery.entries()
     }
 
-    /// Takes the next record: an entry with its moment and its body. The body of an Arrive goes to the
-    /// inbound log, that of an Admin or of a Send with the moment to the outbound log. Any other
-    /// entry's moment and body are dropped.
+    /// Takes the next record: an entry that `accepts` takes, with its moment and its body. The body of
+    /// an Arrive goes to the inbound log, and that of an Admin or of a Send, which has to be one that
+    /// can be written, with the moment to the outbound log, where a Reset begins the next series. Any
+    /// other moment and body are dropped. Without memory all stays as it was.
     pub fn take(
         &mut self,
         alloc: Global,

@@ -68,7 +68,7 @@ unfoldable pub outcome_of_logon : Line Task → Terms → Outcome
 outcome_of_logon line terms =
     if nat_lt terms.number (expected_at line terms) then outcome_of_low line terms else outcome_of_welcome line terms
 
--- the terms of a Logon that can be read and that nothing refuses
+-- the terms of a message that can be read, taken for a Logon, and that none of the fields 98, 108, 141 and 34 refuses
 abbrev pub terms_in : Option (List Field) → Option Terms
 terms_in None = None
 terms_in (Some fields) = result_ok (terms_of fields)
@@ -78,8 +78,9 @@ abbrev pub terms_for : Option ℕ → Option (List Field) → Option Terms
 terms_for None fields = terms_in fields
 terms_for (Some heart) fields = None
 
--- The first message of a connection. One that isn't a lawful Logon counts for nothing here: such a connection is never
--- bound.
+-- A message on a session that is off. Without terms it counts for nothing; with them it is taken for the Logon of the
+-- connection that is bound now. MsgType (35) and the CompIDs aren't looked at here: that is for `route`, before a
+-- connection is bound.
 abbrev pub outcome_of_terms : State → Option Terms → Outcome
 outcome_of_terms state None = outcome_unread state
 outcome_of_terms state (Some terms) = outcome_of_logon state.line terms

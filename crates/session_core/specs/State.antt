@@ -10,8 +10,8 @@ use Rattle.session_core.specs.declared.phases.Phase.TheVariants.{Off, Asked, On}
 use Rattle.session_core.specs.declared.said.TheConstants.{LONGEST_HEARTBEAT}
 use Rattle.session_core.specs.declared.tasks.Task.{Task}
 
--- The two names; the HeartBtInt with which it dials, where it is one that dials; whether a Logon was answered on a
--- connection that stands; the number line with what is left to do for each early message; the moments of the last
+-- The two names; the HeartBtInt with which it dials, where it is one that dials; how far the Logons of a connection
+-- that stands have come; the number line with what is left to do for each early message; the moments of the last
 -- receipt, which is that of its own Logon while that isn't answered, and of the last sending; and the moment of the
 -- TestRequest that waits for an answer.
 pub record State : Type 0 where

@@ -15,14 +15,14 @@ use Rattle.session_core.specs.declared.ticks.Tick.TheVariants.{Quiet, Beat, Test
 abbrev pub beat : State → ℕ → ℕ → Tick
 beat state heart moment = if nat_le (state.sent + 1000 * heart) moment then Beat else Quiet
 
--- A TestRequest that waited for HeartBtInt drops the connection. Where none waits, nothing that came for HeartBtInt and
--- a fifth of it asks for one.
+-- A TestRequest that has waited for HeartBtInt ends the connection. Where none waits, one is due once the last receipt,
+-- that of a message that could be read, is HeartBtInt and a fifth of it ago. Else a Heartbeat may be due.
 abbrev pub alive : State → ℕ → ℕ → Option ℕ → Tick
 alive state heart moment (Some since) = if nat_le (since + 1000 * heart) moment then Expire else beat state heart moment
 alive state heart moment None = if nat_le (state.received + 1200 * heart) moment then Test else beat state heart moment
 
--- A session that waits for the answer to its Logon waits so long. One whose Logon was answered has ticks where its
--- HeartBtInt is above 0.
+-- While its own Logon isn't answered, whose moment is that of the last receipt, the connection ends ANSWER_WAIT behind
+-- that moment. A session whose Logon was answered has ticks where its HeartBtInt is above 0. One that is off has none.
 abbrev pub tick_in : State → ℕ → Phase → Tick
 tick_in state moment Off = Quiet
 tick_in state moment (Asked heart) = if nat_le (state.received + ANSWER_WAIT) moment then Expire else Quiet

@@ -89,8 +89,8 @@ fn close(line: &mut Inbound, acts: &mut Vec<Act>, first: Option<Admin>, last: Ad
 }
 
 /// Offers a message to the line with its number and what it asks for: on its number it is carried
-/// out, and then those held behind it; an early one is held, and a gap that it shows is asked for.
-/// FIX 4.4, volume 2, "Ordered Message Processing", "Message Recovery".
+/// out, and then those held behind it; an early one is held while there is room, and a gap that it
+/// shows then is asked for. FIX 4.4, volume 2, "Ordered Message Processing", "Message Recovery".
 #[tactic(auto, unfolding(crate::specs::Carry::after_handling))]
 pub(crate) fn handle(line: &mut Inbound, acts: &mut Vec<Act>, number: u32, task: Task)
     requires number { IsNumber number }

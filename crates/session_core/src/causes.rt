@@ -24,7 +24,11 @@ pub enum Cause {
     LowNumber { expected: u32, got: u32 },
     /// SenderCompID (49) or TargetCompID (56) isn't the session's.
     CompId { tag: u32 },
-    /// Nothing came since that moment, in milliseconds since 1970-01-01.
+    /// Silence since that moment, in milliseconds since 1970-01-01. On a session whose Logon
+    /// was answered it is that of the last message that could be read, behind which a
+    /// TestRequest waited for HeartBtInt in vain; on one that dialled, that of its own Logon,
+    /// which had no answer in time; and on an accepted connection without a session, that of
+    /// its acceptance, behind which no Logon bound it in time.
     Silent { since: u64 },
     /// The session logged out.
     LoggedOut,

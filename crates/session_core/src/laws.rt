@@ -35,7 +35,7 @@ pub fn acts_of_ticks()
     ensures { ActsOfTicks }
 {}
 
-/// A message on a session whose Logon was answered asks for no reset.
+/// A message on a session that asked for a Logon, or answered one, asks for no reset.
 pub fn only_logons_reset()
     ensures { OnlyLogonsReset }
 {

@@ -31,7 +31,8 @@ fn read_fields(alloc: Global, body: &[u8]) -> Result<Option<Fields<'_>>, NoMemor
     }
 }
 
-/// What a first message asks for, where it is a Logon that nothing refuses.
+/// What a first message asks for, taken for a Logon; None where its fields can't be read,
+/// or where 98, 108, 141 or 34 refuses it.
 pub(crate) fn read_terms(alloc: Global, body: &[u8]) -> Result<Option<Terms>, NoMemory>
     ensures terms { IfOk result (λ terms. terms ≡ terms_in (result_ok (fields_of body.now))) }
     ensures lawful { IfOk result (λ terms. IfSome terms AreTerms) }

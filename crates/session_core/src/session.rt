@@ -25,8 +25,9 @@ use seq_gaps::MAX_NUMBER;
 use std::alloc::Global;
 use std::marker::Model;
 
-/// A session: its names, whether a Logon was answered on a connection that stands, its number line,
-/// and the moments by which its clock goes, in milliseconds since 1970-01-01.
+/// A session: its names, the HeartBtInt with which it dials, if it does, how far the Logons of a
+/// connection that stands have come, its number line, and the moments by which its clock goes, in
+/// milliseconds since 1970-01-01.
 #[derive(Debug, Drop)]
 pub struct Session {
     names: Names,
@@ -63,7 +64,8 @@ impl Session {
         Ok(Session::with_line(us, them, None, line))
     }
 
-    /// A session that goes on from a record: it expects this number.
+    /// A session that accepts and goes on from a record: it is off, and expects this number, from 1 to
+    /// `MAX_NUMBER` + 1.
     pub fn resume(
         alloc: Global,
         us: Vec<u8>,
@@ -79,7 +81,8 @@ impl Session {
         Ok(Session::with_line(us, them, None, line))
     }
 
-    /// A session that dials with this HeartBtInt, in seconds: it is off, and expects this number.
+    /// A session that dials with this HeartBtInt, in seconds from 1 to `LONGEST_HEARTBEAT`: it is off,
+    /// and expects this number, from 1 to `MAX_NUMBER` + 1.
     pub fn dialling(
         alloc: Global,
         us: Vec<u8>,
@@ -174,12 +177,16 @@ impl Session {
         Ok(effects)
     }
 
-    /// A message with this body came at this moment. On a session that is off it is the Logon of the
-    /// connection that is bound now, which `route` refused for no cause; one that it would refuse
-    /// counts for nothing, and so does any on a session that dials and is off. Behind the Logon of
-    /// `ask` it is the answer. On a session whose Logon was answered a body whose fields can't be
-    /// read counts for nothing. What is sent sets the moment of the last sending; for the items of a
-    /// `Resend` the caller calls `sent`.
+    /// A message with this body came at this moment. On a session that accepts and is off it is taken
+    /// for the Logon of the connection that is bound now: EncryptMethod (98), HeartBtInt (108),
+    /// ResetSeqNumFlag (141) and MsgSeqNum (34) are looked at as by `route`, and where one of them
+    /// refuses it, it counts for nothing. MsgType (35) and the CompIDs (49, 56) aren't looked at: that
+    /// is the caller's, by `route`. On a session that dials and is off any message counts for nothing.
+    /// Behind the Logon of `ask` it is the answer, of which all of these are looked at, and one that is
+    /// refused ends the connection. On a session whose Logon was answered 98, 108 and 141 of a further
+    /// one aren't looked at. A body whose fields can't be read is refused as an answer, and else counts
+    /// for nothing. What is sent sets the moment of the last sending; for the items of a `Resend` the
+    /// caller calls `sent`.
     pub fn receive(
         &mut self,
         alloc: Global,
@@ -335,7 +342,7 @@ impl Session {
         if due <= LAST_MOMENT { Some(due) } else { None }
     }
 
-    /// The least number that is no less than such a moment, also one past the last moment.
+    /// The same, also where that number lies past the last moment.
     #[tactic(auto, unfolding(crate::specs::Tick::tick_of), using(crate::proofs::Dues::quiet_before))]
     fn next_due(&self) -> Option<u64>
         ensures some { IfSome result (λ due. (moment : ℕ) → does_nothing_at self.now moment ≡ nat_lt moment due) }

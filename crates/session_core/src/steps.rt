@@ -180,7 +180,7 @@ fn low(alloc: Global, expected: u32, n: u32, fields: &Fields<'_>) -> Result<Step
 }
 
 /// An early number: a Logout is answered and not counted, a ResendRequest is answered at once, and
-/// any other message waits.
+/// any other message waits, where there is room.
 #[tactic(auto, unfolding(crate::specs::Steps::early))]
 fn early(alloc: Global, n: u32, fields: &Fields<'_>) -> Result<Step, NoMemory>
     requires { IsNumber n }

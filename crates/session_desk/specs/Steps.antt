@@ -63,10 +63,11 @@ abbrev pub lapsing : ℕ → Option (ℕ × ℕ) → ℕ → List Happening
 lapsing s None at = []
 lapsing s (Some reserved) at = if nat_lt at reserved.1 then [] else lapses s ∷ []
 
--- which entries of each session were handed out, and what was noted of those behind them
+-- no entry of a session was handed out, and none was noted
 abbrev pub nothing_noted : Pending
 nothing_noted = record { handed = 0; expected = [] }
 
+-- how many entries of a session were handed out, and what was noted of those behind them
 abbrev pub pending_at : List Pending → ℕ → Pending
 pending_at unkept s = slice_index_or unkept s nothing_noted
 

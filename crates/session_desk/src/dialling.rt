@@ -19,8 +19,8 @@ use std::alloc::Global;
 use switchboard::laws::{boards_stay_ready, ready_boards_allow};
 
 /// A session that dials and is bound to no connection is bound to the next one, and asks for a Logon,
-/// behind what its library did: that is gathered. Answers the connection's place. Behind the moment
-/// `until` a hold lapses.
+/// behind what its library did: that is gathered. Answers the connection's place. A hold that the
+/// gathering makes lapses at the moment `until`.
 pub fn dial(
     alloc: Global,
     desk: &mut LeaseDesk,

@@ -32,8 +32,8 @@ use switchboard::laws::{boards_stay_ready, stops_are_told};
 
 /// The first message of a connection that stands binds the session to which it is routed, behind what
 /// the session's library did: that is gathered. Or it has a cause by which the connection ends with
-/// nothing sent. Answers the cause by which the connection ended, if it did. Behind the moment `until` a
-/// hold lapses.
+/// nothing sent. Answers the cause by which the connection ended, if it did. A hold that the gathering
+/// makes lapses at the moment `until`.
 pub fn greet(
     alloc: Global,
     desk: &mut LeaseDesk,

@@ -22,7 +22,8 @@ use std::alloc::Global;
 use switchboard::laws::{boards_stay_ready, ready_boards_allow, stops_are_told};
 
 /// A session hears a message on its connection, behind what its library did: that is gathered. Answers
-/// the cause by which the connection ended, if it did. Behind the moment `until` a hold lapses.
+/// the cause by which the connection ended, if it did. A hold that the gathering makes lapses at the
+/// moment `until`.
 pub fn hear(
     alloc: Global,
     desk: &mut LeaseDesk,

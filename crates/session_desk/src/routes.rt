@@ -1,4 +1,4 @@
-//! The names of all sessions, by which a first message is routed.
+//! The names of the sessions that accept, by which a first message is routed.
 
 use session_core::Names;
 

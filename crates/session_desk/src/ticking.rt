@@ -23,7 +23,8 @@ use switchboard::laws::{boards_stay_ready, ready_boards_allow, stops_are_told};
 
 /// A session hears the clock, behind what its library did: that is gathered. A reservation lapses whose
 /// time is over, and then the session does what is due. Answers the cause by which its connection ended,
-/// if it did. Behind the moment `until` a new hold lapses.
+/// if it did. A hold that the gathering makes lapses at the moment `until`: in this call where `at` is
+/// no earlier.
 pub fn tick(
     alloc: Global,
     desk: &mut LeaseDesk,

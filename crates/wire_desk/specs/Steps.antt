@@ -121,7 +121,7 @@ pub record HandlesAll (routes : Routes) (k at until : ℕ) (old new : Sessions) 
   pub handles : InTurn (λ i. HandlesNext routes k at until) count old between
   pub stops : StopsAt k between new
 
--- pieces were handled so far, and there may be further ones, or all were
+-- pieces were handled so far, and there may be further ones, or all were: cited by proofs alone
 abbrev pub HandledSoFar : Bool → Routes → ℕ → ℕ → ℕ → Sessions → Sessions → Type 0
 HandledSoFar true routes k at until old new = (count : ℕ) × InTurn (λ i. HandlesNext routes k at until) count old new
 HandledSoFar false routes k at until old new = HandlesAll routes k at until old new

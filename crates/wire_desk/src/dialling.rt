@@ -42,8 +42,9 @@ pub struct Dialler {
 impl Dialler {
     /// Dials for a session where that is due: it dials, is bound to no connection, its moment has come and
     /// not all dials were made. A connection binds the session, which asks for a Logon, behind what its
-    /// library did: that is gathered. Behind a dial that failed the session waits. Answers what the wire
-    /// answered, or None where nothing was dialled. Behind the moment `until` a hold lapses.
+    /// library did: that is gathered. Behind a dial that failed the session waits, as `wait` says.
+    /// Answers what the wire answered, or None where nothing was dialled. A hold that the gathering makes
+    /// lapses at the moment `until`.
     pub fn dial<W: Dial>(
         &mut self,
         alloc: Global,
@@ -102,7 +103,8 @@ impl Dialler {
         Ok(Some(dialled))
     }
 
-    /// A connection of a session that dials has ended: its next dial is so much later.
+    /// A connection of a session that dials has ended, or its dial failed: the least moment of its next
+    /// dial is the `wait` of its plan behind this one. Of a session that accepts nothing changes.
     pub fn wait(&mut self, s: u16, at: u64)
         requires moment { at ≤ LAST_MOMENT }
         requires session { s < length self.old.plans.items }

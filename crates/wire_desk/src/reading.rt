@@ -29,7 +29,7 @@ use switchboard::laws::{boards_go_on, boards_stay_ready, stops_are_told};
 impl WireDesk {
     /// Reads a connection that stands once, and handles what came: bytes are cut and their messages
     /// heard, the end of the input and a fault end it, and so does the moment where no Logon came in time.
-    /// Behind the moment `until` a hold lapses.
+    /// A hold that a gathering makes lapses at the moment `until`.
     pub fn read<W: Wire>(
         &mut self,
         alloc: Global,

@@ -33,9 +33,10 @@ use switchboard::Switchboard;
 use switchboard::laws::{boards_go_on, boards_stay_ready, ready_boards_allow, stops_are_told};
 
 impl WireDesk {
-    /// Writes what waits on a connection that isn't closed, until the wire took all of it, or as much as a
-    /// turn has for a connection, or takes no more. Behind a fault the connection ends, and so does one on
-    /// which too many items wait. One that has ended is closed.
+    /// Writes what waits on a connection that isn't closed, of a dialled one whose Logon isn't answered its
+    /// first item alone, until the wire took all of it, or as much as a turn has for a connection, or takes
+    /// no more. Behind a fault the connection ends, and so does one on which too many items wait. One that
+    /// has ended is closed.
     pub fn write<W: Wire>(
         &self,
         desk: &mut LeaseDesk,
@@ -173,7 +174,8 @@ fn stands(board: &Switchboard, k: usize) -> bool
     k < board.connections() && !board.connection(k).has_ended()
 }
 
-/// Makes the texts of what waits on a connection, as much as a turn has for it.
+/// Makes the texts of what waits on a connection, as much as a turn has for it; on a dialled one whose
+/// Logon isn't answered, that of its first item alone.
 fn prepare(desk: &mut LeaseDesk, k: usize) -> Result<(), NoMemory>
     requires steady { IsSteady desk.old.board desk.old.seat }
     requires connection { k < length desk.old.board.connections }

@@ -3,7 +3,7 @@
 /// Why a connection was written to no further in a turn.
 #[derive(Clone, Copy, Debug, PartialEq, Eq)]
 pub enum Stop {
-    /// All that waited was taken.
+    /// All text that waited was taken.
     AllTaken,
     /// The most bytes of a turn were written.
     MostWritten,

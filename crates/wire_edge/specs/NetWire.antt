@@ -22,8 +22,8 @@ pub record NetLink : Type 0 where
   pub write_faults : ℕ
   pub write_blocks : ℕ
 
--- What a wire over TCP keeps: its connections, in the order in which they were accepted, or dialled, and how often its
--- other answers came.
+-- What a wire over TCP keeps: its connections, in the order in which they were accepted, or dialled, and how often a
+-- listen, an accept or a dial failed, and an accept found no connection.
 pub record NetState : Type 0 where
   pub accepted : List NetLink
   pub dialled : List NetLink
@@ -44,7 +44,7 @@ shown l = record { left = None; written = None; closed = l.closed; read_faults =
 abbrev pub new_wire : NetState
 new_wire = record { accepted = []; dialled = []; listen_faults = 0; accept_faults = 0; dial_faults = 0; idle_accepts = 0 }
 
--- the connection behind a read with that answer: the answer is counted
+-- the connection behind a read with that answer: that is counted, unless it is bytes
 abbrev pub link_after_read : NetLink → WireGot → NetLink
 link_after_read l (got.Bytes n) = l
 link_after_read l got.End = record l { ends = one_more l.ends }

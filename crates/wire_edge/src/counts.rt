@@ -7,7 +7,8 @@ ghost use Rattle.wire_edge.specs.NetWire.{new_link, link_after_read, link_after_
 use gate_io::{WireGot, WireWrote};
 use std::marker::Model;
 
-/// Whether a connection is closed, and how often each answer of it came.
+/// Whether a connection is closed, and how often each answer of it but bytes came, counted up to
+/// 2^64 - 1.
 #[derive(Drop)]
 pub struct LinkCounts {
     closed: bool,
@@ -40,7 +41,7 @@ impl LinkCounts {
         }
     }
 
-    /// Counts what a read gave.
+    /// Counts what a read gave, unless that is bytes.
     pub fn read(&mut self, got: WireGot)
         ensures after { self.new ≡ link_after_read self.old got }
         ensures goes_on { LinkGoesOn (shown self.old) (shown self.new) }
@@ -53,7 +54,7 @@ impl LinkCounts {
         }
     }
 
-    /// Counts what a write took.
+    /// Counts what a write came to, unless it took bytes.
     pub fn write(&mut self, wrote: WireWrote)
         ensures after { self.new ≡ link_after_write self.old wrote }
         ensures goes_on { LinkGoesOn (shown self.old) (shown self.new) }

@@ -15,11 +15,11 @@ use std::alloc::Global;
 use std::marker::Model;
 use std::net::Net;
 
-/// The connections of a run over TCP. Nothing is told of their bytes. No call but a pause waits for a counterparty,
-/// though a host name is looked up by the system, which may take its time.
+/// The connections of a run over TCP. Nothing is told of their bytes. No call but a pause and `finish` waits for a
+/// counterparty, though a host name is looked up by the system, which may take its time.
 ///
 /// The poll and the lists for all connections are made at the first `listen`, and before it nothing is accepted and
-/// each dial fails. A connection that isn't known to be ready answers `Blocked` with no system call.
+/// each dial fails. A connection that isn't known to be ready answers `Blocked` with no call at its socket.
 #[derive(Drop)]
 pub struct NetWire<R: Net> {
     sockets: Sockets<R>,
@@ -75,8 +75,9 @@ impl<R: Net> NetWire<R> {
 
 impl<R: Net + Drop> NetWire<R> {
     /// Ends the run: shuts the writing side of each connection down, and reads and drops what still comes until each
-    /// counterparty has ended too, for at most `END_ROUNDS` times `END_WAIT` milliseconds. So bytes that were written
-    /// last aren't lost to a reset. What is left then is closed.
+    /// counterparty has ended too. It waits for that at most `END_ROUNDS` times `END_WAIT` milliseconds, and drains
+    /// each connection with at most `DRAIN_READS` reads with bytes. So bytes that were written last aren't lost to a
+    /// reset, unless a counterparty goes on for longer. What is left then is closed.
     pub fn finish(mut self) {
         self.sockets.finish();
     }

@@ -2,10 +2,11 @@
 
 ghost use Rattle.std.specs.Prelude.{◌≡◌, ◌+◌, if◌then◌else◌, nat_lt};
 
-/// How many pauses in a row, without a byte that moved, poll without waiting. The pauses behind them wait.
+/// How many pauses in a row, without a byte that moved or a connection that was accepted, poll without
+/// waiting. The pauses behind them wait.
 pub const SPIN_PAUSES: u32 = 1_000;
 
-/// How many pauses there were since bytes moved.
+/// How many pauses there were since bytes moved or a connection was accepted, up to `SPIN_PAUSES`.
 #[derive(Drop)]
 pub struct Pace {
     idle: u32,
@@ -18,7 +19,7 @@ impl Pace {
         Pace { idle: 0 }
     }
 
-    /// Bytes moved, or a connection came.
+    /// Bytes moved, or a connection was accepted.
     pub fn moved(&mut self)
         ensures { (self.new).idle ≡ 0 }
     {

@@ -9,8 +9,8 @@ use mio::net::TcpStream;
 use std::io::{Error, ErrorKind, Read, Write};
 use std::net::Shutdown;
 
-/// The most reads that one closed connection is drained with. Behind them it is given up, and what
-/// was written last may then be lost to a reset.
+/// The most reads with bytes that one closed connection is drained with. Behind them it is given up,
+/// and what was written last may then be lost to a reset.
 pub const DRAIN_READS: u32 = 256;
 
 /// The most bytes that a read of a closed connection drops.
@@ -24,7 +24,7 @@ pub struct Port {
     writable: bool,
     /// The writing side is shut down, and what still comes is dropped.
     closing: bool,
-    /// How many more reads it may be drained with.
+    /// How many more reads with bytes it may be drained with.
     drains: u32,
     /// The round of reads in which it was read last.
     round: u64,
@@ -126,7 +126,8 @@ impl Port {
     }
 
     /// Shuts the writing side down, and drops what has come. The socket stays until the
-    /// counterparty's input has ended too.
+    /// counterparty's input has ended or failed, or it was drained often enough. Where the writing
+    /// side can't be shut down it goes at once.
     pub fn close(&mut self) {
         let Some(stream) = &self.stream else {
             return;
@@ -140,7 +141,8 @@ impl Port {
         self.drain();
     }
 
-    /// Drops what has come, until nothing waits, the input has ended, or it was drained often enough.
+    /// Drops what has come, until nothing waits, the input has ended or failed, or it was drained
+    /// often enough. The socket stays where nothing waits, and goes else.
     fn drain(&mut self) {
         let mut dropped = [0u8; DRAIN_BYTES];
         for _ in 0..self.drains {

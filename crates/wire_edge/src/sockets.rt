@@ -12,16 +12,17 @@ use std::io::ErrorKind;
 use std::net::Net;
 
 /// The sockets of a run, from its listen on, and when the system is asked which of them are ready: at a pause, at an
-/// accept that doesn't follow a pause, and where a connection is read a second time since it was asked.
+/// accept where no pause came since the accept or read before, where a connection is read a second time since it was
+/// asked, and as the run ends.
 #[derive(Drop)]
 pub struct Sockets<R: Net> {
     net: R,
     alloc: Global,
     watch: Option<Watch>,
     pace: Pace,
-    /// How often the system was asked, from 1 on: the round of reads.
+    /// How often the system was asked before the run's end, and once more: the round of reads.
     round: u64,
-    /// The last call was a pause, behind which an accept needn't ask again.
+    /// A pause came, and no accept or read since: the next accept needn't ask again.
     paused: bool,
 }
 

@@ -37,8 +37,9 @@ first_heart (body ∷ bodies) = heart_asked body
 abbrev pub answers_logon : Names → ℕ → List ℕ → Bool
 answers_logon names heart body = is_ok (answer_in names heart (result_ok (fields_of body)))
 
--- How long a session waits on a connection on which these messages came. One that accepts goes by the HeartBtInt of the Logon, which came first. One that dials
--- waits so long for the answer to its own Logon, and once that came goes by the HeartBtInt with which it dialled.
+-- How many milliseconds a session waits at least on a connection on which these messages came. One that accepts goes by the HeartBtInt, in seconds, of the Logon,
+-- which came first. One that dials waits ANSWER_WAIT for the answer to its own Logon; where one of the messages is that answer it goes by the HeartBtInt with
+-- which it dialled.
 abbrev pub wait_with : Names → Option ℕ → List (List ℕ) → ℕ
 wait_with names None bodies = 1000 * first_heart bodies
 wait_with names (Some heart) bodies = if list_any (answers_logon names heart) bodies then 1000 * heart else ANSWER_WAIT
@@ -48,7 +49,7 @@ abbrev pub wait_by : (ℕ → State) → Option ℕ → List (List ℕ) → ℕ
 wait_by start None bodies = LOGON_WAIT
 wait_by start (Some s) bodies = wait_with (start s).names (start s).dials bodies
 
--- Nothing came from this moment on, which isn't before the first one, for as long as it is waited for, up to the last one.
+-- From this moment on, which isn't before the first one, the clock went on for as long as is waited for, at least a millisecond, up to the last one.
 pub record HasWaited (first last since wait : ℕ) : Type 0 where
   pub begun : first ≤ since
   pub waited : since + wait ≤ last
