@@ -1,8 +1,8 @@
 #!/usr/bin/env python3
 """How fast reports are audited, beside plain Rust that cuts the same lines into words and numbers.
 
-Three kinds of reports, each of about 32 MB and of a tenth of that: the orders of one session, which nobody reads; orders that
-libraries read and answer, lease by lease; and journals alone, whose lines are short. Both programs take each report by
+Three kinds of reports, each of some 24 to 37 MB and of a tenth of that: the orders of one session, which nobody reads; orders that
+a library reads and answers, lease by lease; and leases without orders, whose lines are short. Both programs take each report by
 turns; the times are the median of five. The last ratio of a kind is that of the two sizes' times: near ten where the
 time is linear. Nothing depends on the numbers but the reader.
 """
@@ -11,9 +11,8 @@ import statistics
 import subprocess
 import tempfile
 
-ROOT = os.path.dirname(os.path.dirname(os.path.abspath(__file__)))
-CRATE = os.path.join(ROOT, "crates", "audit_speed")
-PROGRAM = os.path.join(CRATE, "out", "audit_speed")
+from building import program_of, words, yardstick
+
 STAMP = "20260105-09:30:00.000"
 SIZE = 32_000_000
 
@@ -99,11 +98,10 @@ def time_of(command):
 
 
 def main():
-    subprocess.run(["rt", "run"], cwd=CRATE, check=True, capture_output=True)
+    words(__doc__)
+    program = program_of("audit_speed")
     with tempfile.TemporaryDirectory() as folder:
-        plain = os.path.join(folder, "plain_words")
-        source = os.path.join(ROOT, "bench", "plain_words.rs")
-        subprocess.run(["rustc", "--edition", "2021", "-C", "opt-level=2", "-o", plain, source], check=True)
+        plain = yardstick(folder, "plain_words")
         path = os.path.join(folder, "report")
         for kind, make in KINDS.items():
             times = {}
@@ -113,7 +111,7 @@ def main():
                     file.write(text)
                 ours, theirs = [], []
                 for _ in range(5):
-                    taken, named = time_of([PROGRAM, path])
+                    taken, named = time_of([program, path])
                     assert named == "0", (kind, size, named)
                     ours.append(taken)
                     theirs.append(time_of([plain, path])[0])

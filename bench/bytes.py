@@ -11,9 +11,8 @@ import statistics
 import subprocess
 import tempfile
 
-ROOT = os.path.dirname(os.path.dirname(os.path.abspath(__file__)))
-CRATE = os.path.join(ROOT, "crates", "byte_speed")
-PROGRAM = os.path.join(CRATE, "out", "byte_speed")
+from building import program_of, words, yardstick
+
 SIZE = 16_000_000
 
 
@@ -69,30 +68,24 @@ def nanoseconds(*commands):
     return [statistics.median(taken) for taken in times]
 
 
-def compiled(folder, name):
-    program = os.path.join(folder, name)
-    source = os.path.join(ROOT, "bench", name + ".rs")
-    subprocess.run(["rustc", "--edition", "2021", "-C", "opt-level=2", "-o", program, source], check=True)
-    return program
-
-
 def main():
-    subprocess.run(["rt", "run"], cwd=CRATE, stdout=subprocess.DEVNULL, stderr=subprocess.DEVNULL, check=True)
+    words(__doc__)
+    program = program_of("byte_speed")
     with tempfile.TemporaryDirectory() as folder:
-        scan, scan_fields = compiled(folder, "scan_bytes"), compiled(folder, "scan_fields")
+        scan, scan_fields = yardstick(folder, "scan_bytes"), yardstick(folder, "scan_fields")
         for name, (stream, good) in STREAMS.items():
             path = os.path.join(folder, "stream")
             with open(path, "wb") as file:
                 file.write(stream)
             scanned, cut, bytewise = nanoseconds(
-                [scan, path], [PROGRAM, "cut", path, "4096"], [PROGRAM, "cut", path, "1"]
+                [scan, path], [program, "cut", path, "4096"], [program, "cut", path, "1"]
             )
             line = (
                 f"{name}: cut {len(stream) * 1e3 / cut:.0f} MB a second, {cut / scanned:.1f} times the scan; "
                 f"fed byte by byte {bytewise / scanned:.1f} times"
             )
             if good:
-                read, plain = nanoseconds([PROGRAM, "read", path, "4096"], [scan_fields, path])
+                read, plain = nanoseconds([program, "read", path, "4096"], [scan_fields, path])
                 messages = stream.count(b"\x0135=")
                 line += (
                     f"; with fields {messages * 1e9 / read:,.0f} messages a second, {read / messages:.0f} ns each, "

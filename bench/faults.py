@@ -1,8 +1,6 @@
 #!/usr/bin/env python3
 """Faults in turn: each read and each write of a replay fails once, in each turn and on each connection that was made by then.
 
-usage: faults.py [SCRIPT..]
-
 Into each script, the examples and the worked rows if none is named, a line `failread C` or `failwrite C 0` is put before one of
 its turns, for each turn and each connection in turn, and the script is replayed. A run is right where it ends with status 0; where
 connection C ended by that fault, or as it did without; where C has a session, the journals, logs and holdings of all others are as
@@ -11,7 +9,7 @@ numbered in the order in which they come, and a fault makes a session dial again
 compared, and a script in which two sessions dial says nothing of the others'. Nor are sessions compared that share a library with
 C's where that may have more messages than its ring of notices holds: then it hears of each as soon as the others leave room.
 
-The program has to be built, as `./fixgate` does it. It ends with status 1 where a run wasn't right.
+FIXGATE names another program than the repository's own. It ends with status 1 where a run wasn't right.
 """
 
 import concurrent.futures
@@ -21,15 +19,15 @@ import re
 import subprocess
 import sys
 
-TOP = os.path.dirname(os.path.dirname(os.path.realpath(__file__)))
-PROGRAM = os.environ.get("FIXGATE", f"{TOP}/crates/gateway_cli/out/gateway_cli")
+from building import TOP, gateway, words
+
 FIRST_DIALLED = 1024
 RING = 256
 FAULTS = {"failread {}": "read-fault", "failwrite {} 0": "write-fault"}
 
 
-def replay(lines):
-    ran = subprocess.run([PROGRAM, "replay", "/dev/stdin"], input="\n".join(lines).encode("latin-1"), capture_output=True)
+def replay(program, lines):
+    ran = subprocess.run([program, "replay", "/dev/stdin"], input="\n".join(lines).encode("latin-1"), capture_output=True)
     return ran.returncode, ran.stdout.decode("latin-1")
 
 
@@ -100,12 +98,12 @@ def wrong_in(whole, near, status, report, c, cause):
     return None, ended == cause and old[1] != cause
 
 
-def faults_in(script):
+def faults_in(program, script):
     with open(script, encoding="latin-1") as it:
         lines = it.read().split("\n")
-    status, report = replay(lines)
+    status, report = replay(program, lines)
     if status:
-        return script, 0, 0, []
+        return 0, 0, [f"{script}: status {status} without a fault"]
     whole, dialling = told(report), sum(line.startswith("dial ") for line in lines)
     near = crowded(lines, whole[0])
     runs, met, wrong = 0, 0, []
@@ -114,22 +112,25 @@ def faults_in(script):
             continue
         for fault, cause in FAULTS.items():
             line = fault.format(c)
-            what, is_met = wrong_in(whole, near, *replay([*lines[:at], line, *lines[at:]]), c, cause)
+            what, is_met = wrong_in(whole, near, *replay(program, [*lines[:at], line, *lines[at:]]), c, cause)
             runs, met = runs + 1, met + is_met
             if what:
                 wrong.append(f"{script}: {line} before line {at + 1}: {what}")
-    return script, runs, met, wrong
+    return runs, met, wrong
 
 
-def main(scripts):
+def main():
+    helped = "a script of replay; all examples and worked rows where none is named"
+    scripts = words(__doc__, ("SCRIPT", dict(nargs="*", help=helped))).SCRIPT
+    program = gateway()
     scripts = scripts or sorted([*glob.glob(f"{TOP}/examples/*.script"), *glob.glob(f"{TOP}/crates/replay_tests/data/*.script")])
     runs, met, wrong = 0, 0, []
     with concurrent.futures.ThreadPoolExecutor(os.cpu_count()) as pool:
-        for _, some, few, lines in pool.map(faults_in, scripts):
+        for some, few, lines in pool.map(lambda script: faults_in(program, script), scripts):
             runs, met, wrong = runs + some, met + few, wrong + lines
     print("\n".join([*wrong, f"{len(scripts)} scripts, {runs} runs with a fault, by which {met} connections ended; {len(wrong)} weren't right"]))
     return 1 if wrong else 0
 
 
 if __name__ == "__main__":
-    sys.exit(main(sys.argv[1:]))
+    sys.exit(main())

@@ -2,14 +2,11 @@
 """Hostile clients over the loopback interface, while another client trades: against the example broker, and against
 `fixgate serve`.
 
-usage: hostile.py broker [PROGRAM]
-       hostile.py serve [PROGRAM]
-
-It starts PROGRAM (crates/example_broker/out/example_broker, crates/gateway_cli/out/gateway_cli) on a free port, and lets a
-client trade one order at a time on a session of its own from beginning to end. Meanwhile each case does what no client
-should do, and looks at how its connection ends. One line a case: what was seen, how many orders a second the other client
-traded meanwhile and the longest time that one of them took, and the program's resident memory behind it. A second run has 1,024
-connections at once from its beginning. It ends with status 1 where a case ended otherwise than the rules say.
+It starts a program on a free port, and lets a client trade one order at a time on a session of its own from beginning to end.
+Meanwhile each case does what no client should do, and looks at how its connection ends. One line a case: what was seen, how many
+orders a second the other client traded meanwhile and the longest time that one of them took, and the program's resident memory
+behind it. A second run has 1,024 connections at once from its beginning. It ends with status 1 where a case ended otherwise than
+the rules say.
 
 The broker tells on standard error why a connection ended. `fixgate serve` tells that in its report, so there it is looked at
 when the run is over. Its libraries do what a script says: one fills the trading client's orders, of which there are TRADES, so
@@ -20,6 +17,7 @@ import datetime
 import os
 import random
 import re
+import resource
 import socket
 import struct
 import subprocess
@@ -27,6 +25,8 @@ import sys
 import tempfile
 import threading
 import time
+
+from building import gateway, program_of, words
 
 CONNECTIONS = 1024
 SESSIONS = 16
@@ -120,8 +120,8 @@ class Server:
         try:
             with open(f"/proc/{self.process.pid}/status") as status:
                 found = dict(line.split(":", 1) for line in status)
-            self.most = max(self.most, int(found["VmHWM"].split()[0]) / 1024)
-            return int(found["VmRSS"].split()[0]) / 1024
+            self.most = max(self.most, int(found["VmHWM"].split()[0]) * 1024 / 1e6)
+            return int(found["VmRSS"].split()[0]) * 1024 / 1e6
         except (OSError, KeyError):
             return 0.0
 
@@ -439,7 +439,7 @@ def many_at_once(server):
         one.close()
     ends = [server.ends(one, number, "end", "read-fault", "silent") for one, number in made]
     one_more.close()
-    return answered is None and all(well for well, _ in ends), f"{left} at once, {memory:.1f} MB; one more gets no answer; {sorted({cause for _, cause in ends})}"
+    return answered is None and all(well for well, _ in ends), f"{left} at once, {memory:.1f} MB; one more gets {'no answer' if answered is None else 'AN ANSWER'}; {sorted({cause for _, cause in ends})}"
 
 
 # The orders of each case that are answered: the number of its session, and what its ClOrdIDs end with.
@@ -492,14 +492,17 @@ def run(server, cases):
 
 
 def main():
-    kinds = {
-        "broker": (Broker, "crates/example_broker/out/example_broker"),
-        "serve": (Gateway, "crates/gateway_cli/out/gateway_cli"),
-    }
-    if len(sys.argv) not in (2, 3) or sys.argv[1] not in kinds:
-        sys.exit("\n".join(__doc__.strip().splitlines()[3:5]))
-    kind, path = kinds[sys.argv[1]]
-    path = sys.argv[2] if len(sys.argv) == 3 else os.path.join(os.path.dirname(os.path.abspath(__file__)), "..", path)
+    kinds = {"broker": (Broker, lambda: program_of("example_broker")), "serve": (Gateway, gateway)}
+    asked = words(
+        __doc__,
+        ("KIND", dict(choices=kinds, help="the example broker, or `fixgate serve`")),
+        ("PROGRAM", dict(nargs="?", help="another program than the repository's own, or, of `serve`, the one that FIXGATE names")),
+    )
+    kind, own = kinds[asked.KIND]
+    path = asked.PROGRAM or own()
+    # Both this program and the server have more files open than many systems let a program have at first.
+    _, most = resource.getrlimit(resource.RLIMIT_NOFILE)
+    resource.setrlimit(resource.RLIMIT_NOFILE, (most, most))
     fine = [run(kind(path, cases), cases) for cases in (CASES, [many_at_once])]
     sys.exit(0 if all(fine) else 1)
 

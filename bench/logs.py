@@ -1,28 +1,35 @@
 #!/usr/bin/env python3
 """How fast an outbound log takes entries, and how fast resends are planned over it, beside a plain Vec.
 
-`bench/logs.py [COUNT]` makes logs of so many entries (a million): one that is a single stretch of session entries,
-and one where session and application entries alternate. For each it prints pushes a second and the time of a plan
-over all numbers, of the log and of a Vec whose plan goes over each entry, in the same run. Each figure is the median
-of five runs. Nothing depends on the numbers but the reader.
+It makes logs of COUNT entries: one that is a single stretch of session entries, and one where session and application
+entries alternate. For each it prints pushes a second and the time of a plan over all numbers, of the log and of a Vec
+whose plan goes over each entry, in the same run. Each figure is the median of five runs. Nothing depends on the numbers
+but the reader.
 """
-import os
 import statistics
 import subprocess
-import sys
 
-ROOT = os.path.dirname(os.path.dirname(os.path.abspath(__file__)))
-CRATE = os.path.join(ROOT, "crates", "log_speed")
-PROGRAM = os.path.join(CRATE, "out", "log_speed")
+from building import program_of, words
+
 RUNS = 5
+# The program takes no more.
+MOST = 10_000_000
+
+
+def count_of(word):
+    count = int(word)
+    if not 1 <= count <= MOST:
+        raise ValueError(word)
+    return count
 
 
 def main():
-    count = int(sys.argv[1]) if len(sys.argv) > 1 else 1_000_000
-    subprocess.run(["rt", "run"], cwd=CRATE, stdout=subprocess.DEVNULL, stderr=subprocess.DEVNULL, check=True)
+    helped = f"how many entries, from 1 to {MOST} (1000000)"
+    count = words(__doc__, ("COUNT", dict(nargs="?", type=count_of, default=1_000_000, help=helped))).COUNT
+    program = program_of("log_speed")
     rows = {}
     for _ in range(RUNS):
-        lines = subprocess.run([PROGRAM, str(count)], stdout=subprocess.PIPE, check=True, text=True).stdout.splitlines()
+        lines = subprocess.run([program, str(count)], stdout=subprocess.PIPE, check=True, text=True).stdout.splitlines()
         for line in lines:
             mix, name, _, push, _, plan, _, items = line.split()
             rows.setdefault((mix, int(items)), {}).setdefault(name, []).append((int(push), int(plan)))

@@ -5,8 +5,9 @@ Three kinds of scripts of nearly 16 MiB, and each with a tenth of its messages: 
 orders of 64 sessions in turn, and a library's calls (it requests a session, polls what came, sends a report
 for each order, and gives the session back). Both programs replay each script by turns; the times are the
 median of five. bench/plain_replay.rs does the same work in plain Rust: it splits, frames, cuts, checks, keeps, and
-writes as much, and is checked to write about as many bytes. The last ratio of a kind is that of the two scripts'
-times: near ten where the time is linear. Nothing depends on the numbers but the reader.
+writes as much; how many bytes both reports have is printed. The last ratio of a kind is that of the two scripts'
+times: near ten where the time is linear. FIXGATE names another program than the repository's own. Nothing depends on the
+numbers but the reader.
 """
 import os
 import statistics
@@ -15,10 +16,8 @@ import sys
 import tempfile
 import time
 
-ROOT = os.path.dirname(os.path.dirname(os.path.abspath(__file__)))
-FIXGATE = os.path.join(ROOT, "fixgate")
-# The program itself: the starter compares the sources first, which is no part of the replay.
-PROGRAM = os.path.join(ROOT, "crates", "gateway_cli", "out", "gateway_cli")
+from building import gateway, words, yardstick
+
 STAMP = "20260105-09:30:00.000"
 MOST = 16_777_216
 READ = 4096
@@ -101,34 +100,32 @@ def run(command):
     return took, len(ended.stdout)
 
 
-def measure(folder, plain, name, make, orders):
+def measure(folder, program, plain, name, make, orders):
     path = os.path.join(folder, f"{name}.{orders}.script")
     text = text_of(make, orders)
     with open(path, "w") as file:
         file.write(text)
-    runs = [(run([PROGRAM, "replay", path]), run([plain, path])) for _ in range(5)]
+    runs = [(run([program, "replay", path]), run([plain, path])) for _ in range(5)]
     replayed = statistics.median(took for (took, _), _ in runs)
-    yardstick = statistics.median(took for _, (took, _) in runs)
+    plainly_done = statistics.median(took for _, (took, _) in runs)
     (_, told), (_, plainly) = runs[0]
     print(
         f"{name}: {orders} orders, {len(text):,} bytes: replay {replayed:.3f} s, {orders / replayed:,.0f} orders and "
-        f"{len(text) / replayed / 1e6:.1f} MB a second; plain Rust {yardstick:.3f} s; ratio {replayed / yardstick:.2f}; "
+        f"{len(text) / replayed / 1e6:.1f} MB a second; plain Rust {plainly_done:.3f} s; ratio {replayed / plainly_done:.2f}; "
         f"reports of {told:,} and {plainly:,} bytes"
     )
     return replayed
 
 
 def main():
-    # Builds the program first where that is due.
-    subprocess.run([FIXGATE], stdout=subprocess.DEVNULL, stderr=subprocess.DEVNULL)
+    words(__doc__)
+    program = gateway()
     with tempfile.TemporaryDirectory() as folder:
-        plain = os.path.join(folder, "plain_replay")
-        source = os.path.join(ROOT, "bench", "plain_replay.rs")
-        subprocess.run(["rustc", "--edition", "2021", "-C", "opt-level=2", "-o", plain, source], check=True)
+        plain = yardstick(folder, "plain_replay")
         for name, make in [("one session", one_session), ("64 sessions", many_sessions), ("library calls", library_calls)]:
             most = largest(make)
-            whole = measure(folder, plain, name, make, most)
-            tenth = measure(folder, plain, name, make, most // 10)
+            whole = measure(folder, program, plain, name, make, most)
+            tenth = measure(folder, program, plain, name, make, most // 10)
             print(f"{name}: ratio of the times for {most} and {most // 10} orders: {whole / tenth:.1f}")
 
 

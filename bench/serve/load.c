@@ -295,7 +295,7 @@ int main(int count, char **words) {
     const char *server = count > 5 ? words[5] : NULL;
     long samples = count > 6 ? atol(words[6]) : 10;
     if (all < 1 || all > MOST_SESSIONS || window < 1 || window > MOST_WINDOW || orders < all || samples < 1) return 2;
-    long total = orders / all * all, step = total / samples, told = 0;
+    long total = orders / all * all, step = total / samples, told = 0, next = step;
     latencies = malloc(sizeof *latencies * total);
     int poll = epoll_create1(0);
     for (int i = 0; i < all; i++) {
@@ -325,10 +325,12 @@ int main(int count, char **words) {
                 flush(s);
             }
         }
-        if (server && answers - told >= step) {
+        // One look may take many answers: what is too many counts for the next line.
+        if (server && step && answers >= next) {
             tell(server, told, told_at);
             told = answers;
             told_at = now();
+            next += step;
         }
     }
     double seconds = (now() - begun) / 1e9;
