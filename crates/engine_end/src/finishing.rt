@@ -26,8 +26,8 @@ use std::alloc::Global;
 use switchboard::Switchboard;
 
 /// Takes the libraries' seats in, gathers each session once more, and hands out what the run leaves.
-/// `at` is the moment of the last turn, and behind `until` a hold lapses that this gathering makes. What
-/// a session sends waits on its connection and isn't written. `unkept` says which entries were handed
+/// `at` is the moment of the last turn, and a hold that this gathering makes lapses at the moment `until`.
+/// What a session sends waits on its connection and isn't written. `unkept` says which entries were handed
 /// out before, and `accepted` how many connections were accepted.
 ///
 /// Without memory each session and connection is handed out as it stood behind none, some or all of these

@@ -13,8 +13,8 @@ use session_core::MOST_SESSIONS;
 use std::alloc::Global;
 use switchboard::laws::{boards_go_on, boards_stay_ready, ready_boards_allow};
 
-/// Gathers what each session's library did, in the order of the sessions' numbers. Behind the moment
-/// `until` a hold lapses. Without memory the sessions before one are gathered, each event whole.
+/// Gathers what each session's library did, in the order of the sessions' numbers. A hold that this makes lapses at
+/// the moment `until`. Without memory the sessions before one are gathered, each event whole.
 pub(crate) fn gather_all(
     alloc: Global,
     desk: &mut LeaseDesk,

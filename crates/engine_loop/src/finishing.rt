@@ -23,9 +23,11 @@ use std::alloc::Global;
 impl Engine {
     /// Ends the run: takes the libraries' seats in, gathers each session once more with the last turn's
     /// moment, and hands out what the run leaves. What a session sends waits on its connection and isn't
-    /// written. Without memory, now or in an earlier turn, each session and connection is handed out as it
-    /// stood, each journal lawful: sends and releases that only this gathering would have shown may be
-    /// missing.
+    /// written.
+    ///
+    /// Without memory in an earlier turn each session and connection is handed out as it stood; without memory
+    /// now, as it stood behind none, some or all of these gatherings. Each journal is lawful, sends and releases
+    /// that only these gatherings would have shown may be missing, and no record of a new entry is handed out.
     pub fn finish(
         self,
         alloc: Global,

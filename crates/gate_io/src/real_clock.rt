@@ -11,7 +11,7 @@ use std::rt;
 use std::time::{SystemTime, UNIX_EPOCH};
 
 /// The system's clock, which may be set back and ahead. Where it can't be read, stands before
-/// 1970-01-01, or has more milliseconds than a `u64`, it gives the last reading again, 0 at first.
+/// 1970-01-01, or has more milliseconds than a `u64` holds, it gives the last reading again, 0 at first.
 /// No clause says which readings it gives.
 #[derive(Drop)]
 pub struct RealClock<R: rt::Clock> {

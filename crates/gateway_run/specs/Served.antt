@@ -25,8 +25,8 @@ pub record ListensAt {W : Type 0} (gives : W → List ℕ → Listened → W →
   pub tells : (c : ℕ) → links c ≡ link wire c
 
 -- The script is served over a wire that listens so, which told of its connections, as it began to, what it told before. The headline holds of the record, where the
--- wire tells what it does in the end; where no turns were spent nothing is left to wait for; a connection ended since nothing came only where the clock had gone on for
--- as long as it is waited for, and a lease was taken back for its library's silence only where it had gone on for as long as a library may be silent.
+-- wire tells what it does in the end; where no turns were spent nothing is left to wait for; where a connection ended since nothing came, the clock goes on in the run for
+-- at least as long as it is waited for, and where a lease was taken back for its library's silence, for at least as long as a library may be silent.
 pub record WireServes (Listening : (ℕ → Link) → Type 0) (wide : Bool) (Read : List ℕ → Type 0) (old new : Door) (old_links new_links : ℕ → Link) (script : Script) (turns : ℕ) (run : RunRecord) (spent : Option ℕ) : Type 0 where
   pub links : ℕ → Link
   pub listening : Listening links

@@ -14,9 +14,9 @@ use crate::runs::engines_are_accounted_for;
 use crate::serving::served_scripts_are_accounted_for;
 use engine_laws::laws::accounts_are_whole;
 
-/// Whatever script is served, a connection of its record ended since nothing came only where the clock had gone on for as long as
-/// that is waited for, and a lease was taken back for its library's silence only where it had gone on for as long as a library may
-/// be silent.
+/// Whatever script is served: where a connection of its record ended since nothing came, the clock goes on, in all readings of the
+/// run, for at least as long as that is waited for, and where a lease was taken back for its library's silence, for at least as
+/// long as a library may be silent. That it had done so by then isn't said.
 pub fn silences_are_waited_for()
     ensures { (script : Script) (turns : ℕ) (wide : Bool) (old new : Door) (old_links new_links : ℕ → Link) (left : RunRecord) (spent : Option ℕ)
         (serves : Serves script turns wide AnyReadings old new old_links new_links left spent) → KeepsTime script.config serves.reading serves.drives.last.readings left }

@@ -130,7 +130,7 @@ fn accounts_and_calls_are_told()
 }
 
 /// The headline holds of each record that serving a script leaves, however the threads came between one another, where its journals are those
-/// of registries and nothing had come at the wire before; and the wire tells of the connections what it does then.
+/// of registries and no connection was accepted or dialled over the wire before; and the wire tells of the connections what it does then.
 pub fn served_headlines_hold()
     ensures headline { (script : Script) (turns : ℕ) (wide : Bool) (old new : Door) (old_links new_links : ℕ → Link) (left : RunRecord) (spent : Option ℕ)
         → Serves script turns wide AnyReadings old new old_links new_links left spent → IsConfig script.config → old.accepted ≡ 0 → old.dialled ≡ 0 → All HasLawfulJournal left.engine.sessions

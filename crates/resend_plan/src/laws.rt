@@ -42,8 +42,8 @@ pub fn plans_answer()
     ensures none { (entries : List OutEntry) (series begin last at : ℕ) → (plan_of entries series begin last at ≡ []) ↔ AsksNothing (length entries) begin last }
 {}
 
-/// The text of an item is the body of a frame, if its entry's body is one or it is a gap fill, and how long
-/// it is at most.
+/// The text of an item is the body of a frame, if its entry's body is one or it is a gap fill. It has at most
+/// `longest_text` bytes, where its numbers are of 64 bits.
 pub fn texts_are_bodies()
     ensures is_body { (names : Names2) (log : List (List OutEntry)) (item : WireItem) → HasFrameBody log item → IsBody (body_of names log item) }
     ensures length { (names : Names2) (log : List (List OutEntry)) (item : WireItem) → HasNumbersInRange item → length (body_of names log item) ≤ longest_text names log item }

@@ -15,7 +15,7 @@ moment_at reading = min reading LAST_MOMENT
 
 -- What the record tells of silence the clock bears out, from the first reading on, up to the greatest.
 pub record KeepsTime (config : Config) (reading : ℕ) (readings : List ℕ) (left : RunRecord) : Type 0 where
-  -- A connection ended since nothing came only where the clock had gone on for as long as it is waited for.
+  -- Where a connection ended since nothing came, the clock goes on in the run for at least as long as it is waited for.
   pub silent : All (EndedInTime (first_machines config) (moment_at reading) (moment_at (greatest_of (reading ∷ readings)))) left.engine.connections
-  -- A lease was taken back for its library's silence only where it had gone on for as long as a library may be silent.
+  -- Where a lease was taken back for its library's silence, it goes on for at least as long as a library may be silent.
   pub timeouts : All (TimedOutInTime (moment_at reading) (moment_at (greatest_of (reading ∷ readings))) config.timeout) left.engine.sessions

@@ -1,4 +1,4 @@
--- How long a connection is waited for, in the words of a record, and what the clock had told where one ended since nothing came.
+-- How long a connection is waited for, in the words of a record, and what the clock tells in a run in which one ended since nothing came.
 use Rattle.std.specs.Prelude.{◌≡◌, ℕ, ◌+◌, ◌*◌, ◌≤◌, Bool, is_ok, if◌then◌else◌, List, [], ◌∷◌, Option, None, Some, unwrap_or}
 use Rattle.std.specs.List.{list_any}
 use Rattle.std.specs.Result.{result_ok}
@@ -49,7 +49,7 @@ abbrev pub wait_by : (ℕ → State) → Option ℕ → List (List ℕ) → ℕ
 wait_by start None bodies = LOGON_WAIT
 wait_by start (Some s) bodies = wait_with (start s).names (start s).dials bodies
 
--- From this moment on, which isn't before the first one, the clock went on for as long as is waited for, at least a millisecond, up to the last one.
+-- From this moment on, which isn't before the first one, the clock goes on for as long as is waited for, at least a millisecond, up to the last one.
 pub record HasWaited (first last since wait : ℕ) : Type 0 where
   pub begun : first ≤ since
   pub waited : since + wait ≤ last

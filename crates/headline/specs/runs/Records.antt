@@ -24,7 +24,7 @@ pub record AreSessionsOf (config : Config) (board : Board) : Type 0 where
   pub count : length board.sessions ≡ length config.names
   pub names : (s : ℕ) → s < length config.names → (book_at board s).machine.names ≡ names_of config s
 
--- What a script leaves is accounted for. From the configured sessions on, which had no entry, its steps led to a last run, whose libraries have lived; that left
+-- What a script leaves is accounted for. There is a last run, accounted for from the configured sessions on, which had no entry, whose libraries have lived; that left
 -- the record, which has the configured sessions and libraries, and bears out what its reports of the libraries say.
 pub record IsAccountedRecord (script : Script) (left : RunRecord) : Type 0 where
   pub last : Run
