@@ -115,10 +115,10 @@ def main():
                     assert named == "0", (kind, size, named)
                     ours.append(taken)
                     theirs.append(time_of([plain, path])[0])
-                taken, yardstick = statistics.median(ours), statistics.median(theirs)
+                taken, plainly = statistics.median(ours), statistics.median(theirs)
                 times[size] = taken
                 rate = len(text) * 1000 / taken
-                print(f"{kind}: {len(text)} bytes, {rate:.0f} MB a second, {taken / yardstick:.1f} times plain Rust")
+                print(f"{kind}: {len(text)} bytes, {rate:.0f} MB a second, {taken / plainly:.1f} times plain Rust")
             print(f"{kind}: ten times the bytes take {times[SIZE] / times[SIZE // 10]:.1f} times as long")
 
 

@@ -43,7 +43,7 @@ def program_of(crate):
 def gateway():
     """The program that FIXGATE names, or else that of the repository, which is built from the sources as they are. It is run
     itself and not by `./fixgate`, which compares the sources first."""
-    if "FIXGATE" in os.environ:
+    if os.environ.get("FIXGATE"):
         return os.environ["FIXGATE"]
     if subprocess.run([os.path.join(TOP, "fixgate"), "drill", "1"], stdout=subprocess.DEVNULL).returncode:
         sys.exit("the gateway isn't built, so nothing is run")

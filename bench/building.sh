@@ -30,6 +30,15 @@ counts() {
     done
 }
 
+# at_most N WORD..: ends the script where there are more than N words.
+at_most() {
+    [ $(($# - 1)) -le "$1" ] || {
+        echo "$0: more words than it knows" >&2
+        head_of_script >&2
+        exit 2
+    }
+}
+
 # need TOOL..: ends the script where one of these isn't on the PATH.
 need() {
     for tool; do

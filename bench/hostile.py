@@ -216,7 +216,7 @@ class Gateway(Server):
             made.settimeout(PATIENCE)
             while made.recv(65536):
                 pass
-        except TimeoutError:
+        except socket.timeout:
             return False, "stands"
         except OSError:
             pass
@@ -415,7 +415,7 @@ def storm_of_resends(server):
             if got is None:
                 break
             again += got.get("43") == "Y"
-    except TimeoutError:
+    except socket.timeout:
         pass
     took = time.monotonic() - begun
     asked.wait(5)
@@ -503,7 +503,13 @@ def main():
     # Both this program and the server have more files open than many systems let a program have at first.
     _, most = resource.getrlimit(resource.RLIMIT_NOFILE)
     resource.setrlimit(resource.RLIMIT_NOFILE, (most, most))
-    fine = [run(kind(path, cases), cases) for cases in (CASES, [many_at_once])]
+    fine = []
+    for cases in (CASES, [many_at_once]):
+        server = kind(path, cases)
+        try:
+            fine.append(run(server, cases))
+        finally:
+            server.process.kill()
     sys.exit(0 if all(fine) else 1)
 
 

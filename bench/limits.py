@@ -185,6 +185,7 @@ def ended(command):
     """The status of a run, what it wrote, and the most memory that it had, in bytes."""
     made = subprocess.Popen(command, stdout=subprocess.PIPE)
     late = threading.Timer(1800, made.kill)
+    late.daemon = True
     late.start()
     with made.stdout as out:
         report = out.read()

@@ -294,7 +294,10 @@ int main(int count, char **words) {
     long window = atol(words[3]), orders = atol(words[4]);
     const char *server = count > 5 ? words[5] : NULL;
     long samples = count > 6 ? atol(words[6]) : 10;
-    if (all < 1 || all > MOST_SESSIONS || window < 1 || window > MOST_WINDOW || orders < all || samples < 1) return 2;
+    if (all < 1 || all > MOST_SESSIONS || window < 1 || window > MOST_WINDOW || orders < all || samples < 1) {
+        fprintf(stderr, "load: no run has %ld orders on %d sessions at window %ld\n", orders, all, window);
+        return 2;
+    }
     long total = orders / all * all, step = total / samples, told = 0, next = step;
     latencies = malloc(sizeof *latencies * total);
     int poll = epoll_create1(0);
