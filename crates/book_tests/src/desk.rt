@@ -392,12 +392,22 @@ impl Desk {
 }
 
 /// What a run leaves: the session's book, and the records of its connections.
-#[derive(Drop)]
 pub struct Left {
     pub book: SessionBook,
     records: Vec<ConnRecord>,
     past: ConnRecord,
     last: ConnRecord,
+}
+
+impl Drop for Left {
+    fn drop(self) {
+        let Left {
+            book: _,
+            records: _,
+            past: _,
+            last: _,
+        } = self;
+    }
 }
 
 impl Left {

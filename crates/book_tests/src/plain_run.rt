@@ -55,7 +55,6 @@ impl PlainEntry {
     }
 }
 
-#[derive(Drop)]
 pub struct PlainRun {
     pub journal: Vec<Entry>,
     pub inbound: Vec<Vec<u8>>,
@@ -68,6 +67,24 @@ pub struct PlainRun {
     owned: bool,
     sends: u32,
     reserved: Option<(u8, u64)>,
+}
+
+impl Drop for PlainRun {
+    fn drop(self) {
+        let PlainRun {
+            journal: _,
+            inbound: _,
+            series: _,
+            connections: _,
+            machine: _,
+            leases: _,
+            lease: _,
+            library: _,
+            owned: _,
+            sends: _,
+            reserved: _,
+        } = self;
+    }
 }
 
 fn text(alloc: Global, text: &str) -> Result<Vec<u8>, NoMemory> {

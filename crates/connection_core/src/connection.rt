@@ -27,7 +27,6 @@ use std::marker::Model;
 
 /// A connection: what came of it, what is to be written on it, the session to which it is bound, and
 /// its end. It stands until it has a cause.
-#[derive(Drop)]
 pub struct Connection {
     number: u32,
     since: u64,
@@ -39,6 +38,23 @@ pub struct Connection {
     session: Option<u16>,
     out: Outbox,
     cause: Option<Cause>,
+}
+
+impl Drop for Connection {
+    fn drop(self) {
+        let Connection {
+            number: _,
+            since: _,
+            dialled: _,
+            answered: _,
+            taken: _,
+            cutter: _,
+            garbled: _,
+            session: _,
+            out: _,
+            cause: _,
+        } = self;
+    }
 }
 
 impl Model for Connection {
@@ -297,12 +313,24 @@ impl Connection {
     pub fn into_record(self) -> ConnRecord
         ensures { result ≡ record_of self }
     {
+        let Connection {
+            number: _,
+            since: _,
+            dialled: _,
+            answered: _,
+            taken,
+            cutter: _,
+            garbled,
+            session,
+            out,
+            cause,
+        } = self;
         ConnRecord {
-            session: self.session,
-            taken: Bytes::of(self.taken),
-            garbled: self.garbled,
-            written: self.out.into_written(),
-            cause: self.cause,
+            session,
+            taken: Bytes::of(taken),
+            garbled,
+            written: out.into_written(),
+            cause,
         }
     }
 }

@@ -22,7 +22,7 @@ use std::marker::Model;
 ///
 /// An item names its entry in the session's log, or is a gap fill, which names none. The log only
 /// grows, so the item's text is the same whenever it is made.
-#[derive(Debug, Drop)]
+#[derive(Debug)]
 pub struct Outbox {
     text: Vec<u8>,
     written: usize,
@@ -32,6 +32,19 @@ pub struct Outbox {
     body: Vec<u8>,
     /// What it has in common with the next one.
     kept: KeptTexts,
+}
+
+impl Drop for Outbox {
+    fn drop(self) {
+        let Outbox {
+            text: _,
+            written: _,
+            ends: _,
+            unmade: _,
+            body: _,
+            kept: _,
+        } = self;
+    }
 }
 
 impl Model for Outbox {
@@ -207,11 +220,19 @@ impl Outbox {
     }
 
     /// All bytes that were written.
-    pub fn into_written(mut self) -> Bytes
+    pub fn into_written(self) -> Bytes
         ensures { result ≡ written_text self.outgoing }
     {
-        self.text.truncate(self.written);
-        Bytes::of(self.text)
+        let Outbox {
+            mut text,
+            written,
+            ends: _,
+            unmade: _,
+            body: _,
+            kept: _,
+        } = self;
+        text.truncate(written);
+        Bytes::of(text)
     }
 }
 

@@ -26,7 +26,7 @@ pub enum DiskStep {
 /// bytes than there is room for. A write that fails writes nothing. One that is listed, with room for
 /// the call, is recorded all the same, with no bytes: a crash may leave anything in its range. No
 /// other call that fails is recorded: a crash leaves what it could leave before it.
-#[derive(Debug, Drop)]
+#[derive(Debug)]
 pub struct MemDisk {
     first: Vec<u8>,
     bytes: Vec<u8>,
@@ -37,6 +37,22 @@ pub struct MemDisk {
     fails: Vec<u64>,
     calls: u64,
     faults: u64,
+}
+
+impl Drop for MemDisk {
+    fn drop(self) {
+        let MemDisk {
+            first: _,
+            bytes: _,
+            written: _,
+            steps: _,
+            room: _,
+            spare: _,
+            fails: _,
+            calls: _,
+            faults: _,
+        } = self;
+    }
 }
 
 impl Model for MemDisk {

@@ -45,11 +45,23 @@ pub(crate) fn restart(
     entries_decide_one_by_one();
     let recovered = revived.revival.entries().len();
     let mut book = resume(alloc, names, dialled, until, revived)?;
-    take_back(alloc, &mut book)?;
-    leave(&mut book)?;
-    let mut unkept = Unkept::new(alloc, recovered);
-    unkept.note(&book)?;
+    let unkept = close(alloc, &mut book, recovered)?;
     Ok((book, unkept))
+}
+
+// What a run left open is closed. Of the entries behind that, so many were handed out, and the others are
+// noted.
+fn close(alloc: Global, book: &mut SessionBook, recovered: usize) -> Result<Unkept, NoMemory>
+    requires { recovered ≤ length (after_leaving (after_taking_back book.old.book)).entries }
+    ensures book { OnOk result (book.new.book ≡ after_leaving (after_taking_back book.old.book)) }
+    ensures noted { IfOk result (λ unkept. unkept ≡ closing_noted recovered book.new.book) }
+    ensures all { IfOk result (λ unkept. HasNotedAll unkept book.new.book) }
+{
+    take_back(alloc, book)?;
+    leave(book)?;
+    let mut unkept = Unkept::new(alloc, recovered);
+    unkept.note(book)?;
+    Ok(unkept)
 }
 
 // The session as the run before left it.

@@ -11,12 +11,17 @@ use std::collections::HashMap;
 
 /// The book of a session: where its reading goes on, and which orders were filled. One library has it at a time, from
 /// before it looks whether an order was filled until its answer was sent, so no order is filled twice.
-#[derive(Drop)]
 pub struct Book {
     /// The position of the first message of the inbound log that wasn't answered.
     pub(crate) next: u64,
     /// The ClOrdID (11) of each order that was filled, with the number of its fill.
     pub(crate) filled: HashMap<Vec<u8>, u64>,
+}
+
+impl Drop for Book {
+    fn drop(self) {
+        let Book { next: _, filled: _ } = self;
+    }
 }
 
 impl Book {

@@ -25,7 +25,6 @@ pub enum Parting {
 }
 
 /// A session, as the libraries share it.
-#[derive(Drop)]
 pub struct Place {
     pub(crate) book: Mutex<Book>,
     /// How many orders were filled.
@@ -37,6 +36,19 @@ pub struct Place {
     /// The last lease that a library handed to the other, and the last one that it gave back for nobody.
     handed: AtomicU64,
     given_back: AtomicU64,
+}
+
+impl Drop for Place {
+    fn drop(self) {
+        let Place {
+            book: _,
+            fills: _,
+            asked: _,
+            let_go: _,
+            handed: _,
+            given_back: _,
+        } = self;
+    }
 }
 
 impl Place {

@@ -9,7 +9,6 @@ use session_core::Cause;
 use std::alloc::Global;
 
 /// What was told so far of the sessions and connections.
-#[derive(Drop)]
 pub struct Watch {
     /// For each session the connection to which it was bound.
     bound: Vec<Option<u32>>,
@@ -19,6 +18,17 @@ pub struct Watch {
     came: usize,
     /// The places of those that stood.
     standing: Vec<usize>,
+}
+
+impl Drop for Watch {
+    fn drop(self) {
+        let Watch {
+            bound: _,
+            owners: _,
+            came: _,
+            standing: _,
+        } = self;
+    }
 }
 
 impl Watch {

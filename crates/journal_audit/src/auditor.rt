@@ -24,7 +24,6 @@ use std::marker::Model;
 use std::mem;
 
 /// What the lines so far have told.
-#[derive(Drop)]
 pub(crate) struct Auditor {
     place: Place,
     number: u16,
@@ -39,6 +38,26 @@ pub(crate) struct Auditor {
     library: u8,
     asked: u32,
     unread: Option<u64>,
+}
+
+impl Drop for Auditor {
+    fn drop(self) {
+        let Auditor {
+            place: _,
+            number: _,
+            header: _,
+            held: _,
+            current: _,
+            sessions: _,
+            binds: _,
+            replies: _,
+            least: _,
+            unwritten: _,
+            library: _,
+            asked: _,
+            unread: _,
+        } = self;
+    }
 }
 
 impl Model for Auditor {

@@ -14,12 +14,23 @@ use std::alloc::Global;
 use std::marker::Model;
 
 /// The entries of a session in order, with the spans of ownership and what else they come to.
-#[derive(Debug, Drop)]
+#[derive(Debug)]
 pub struct Journal {
     entries: Vec<Entry>,
     holdings: Vec<Holding>,
     limit: u32,
     totals: Totals,
+}
+
+impl Drop for Journal {
+    fn drop(self) {
+        let Journal {
+            entries: _,
+            holdings: _,
+            limit: _,
+            totals: _,
+        } = self;
+    }
 }
 
 impl Model for Journal {

@@ -18,7 +18,6 @@ use std::marker::Model;
 pub(crate) const RECORDS: usize = 64;
 
 /// A library of the gateway, as an application has it.
-#[derive(Drop)]
 pub struct Library {
     pub(crate) ends: LibraryEnds2,
     pub(crate) asks: u32,
@@ -27,6 +26,20 @@ pub struct Library {
     pub(crate) readings: [Reading; RECORDS],
     pub(crate) kept: Option<Message>,
     pub(crate) waited: Waited,
+}
+
+impl Drop for Library {
+    fn drop(self) {
+        let Library {
+            ends: _,
+            asks: _,
+            asked: _,
+            unanswered: _,
+            readings: _,
+            kept: _,
+            waited: _,
+        } = self;
+    }
 }
 
 impl Model for Library {
@@ -82,7 +95,16 @@ impl Library {
     pub fn seat(self) -> LibrarySeat
         ensures { result ≡ self.ends.seat }
     {
-        self.ends.seat
+        let Library {
+            ends,
+            asks: _,
+            asked: _,
+            unanswered: _,
+            readings: _,
+            kept: _,
+            waited: _,
+        } = self;
+        ends.seat
     }
 
     /// What the last call waited for, and how many calls in a row. Calls that change nothing, and

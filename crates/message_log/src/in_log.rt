@@ -12,9 +12,15 @@ use std::sync::ledger::{Blank, Ledger};
 
 /// The bodies of accepted messages. A body's position is its place in the log, from 0. Contracts see
 /// the list of the bodies, and how many more are taken with no memory asked for.
-#[derive(Debug, Drop)]
+#[derive(Debug)]
 pub struct InLog {
     bodies: Paged<Bytes>,
+}
+
+impl Drop for InLog {
+    fn drop(self) {
+        let InLog { bodies: _ } = self;
+    }
 }
 
 impl Model for InLog {

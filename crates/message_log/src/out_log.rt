@@ -21,7 +21,7 @@ pub const LAST_SERIES: u32 = u32::MAX;
 /// The messages that were numbered, in series: a series begins at each reset of the numbers. Contracts
 /// see the list of the series, each the list of its entries, and how many more calls of `push` and
 /// `turn_over` take no memory.
-#[derive(Debug, Drop)]
+#[derive(Debug)]
 pub struct OutLog {
     // the entries of all series
     entries: Paged<OutEntry>,
@@ -30,6 +30,17 @@ pub struct OutLog {
     // where the present series begins
     start: u64,
     stretches: Stretches,
+}
+
+impl Drop for OutLog {
+    fn drop(self) {
+        let OutLog {
+            entries: _,
+            starts: _,
+            start: _,
+            stretches: _,
+        } = self;
+    }
 }
 
 impl Model for OutLog {

@@ -38,7 +38,6 @@ pub(crate) struct Held {
     pub(crate) count: u64,
 }
 
-#[derive(Drop)]
 pub(crate) struct Library {
     /// From 1.
     pub(crate) number: u64,
@@ -59,6 +58,25 @@ pub(crate) struct Library {
     pub(crate) reads: u64,
     /// The lines of its calls.
     pub(crate) calls: String,
+}
+
+impl Drop for Library {
+    fn drop(self) {
+        let Library {
+            number: _,
+            asked: _,
+            open: _,
+            command: _,
+            notices: _,
+            held: _,
+            committed: _,
+            beats: _,
+            seen_beats: _,
+            since: _,
+            reads: _,
+            calls: _,
+        } = self;
+    }
 }
 
 impl Library {

@@ -11,7 +11,6 @@ const MOST_READ: usize = 4096;
 /// The number of the first connection that is dialled.
 pub(crate) const FIRST_DIALLED: u64 = 1024;
 
-#[derive(Drop)]
 pub(crate) struct Link {
     alloc: Global,
     pub(crate) number: u64,
@@ -39,6 +38,32 @@ pub(crate) struct Link {
     pub(crate) texts: Vec<u8>,
     pub(crate) ends: Vec<u64>,
     pub(crate) written: u64,
+}
+
+impl Drop for Link {
+    fn drop(self) {
+        let Link {
+            alloc: _,
+            number: _,
+            came: _,
+            since: _,
+            given: _,
+            finished: _,
+            fails_read: _,
+            fails_at: _,
+            blocked_at: _,
+            taken: _,
+            cut: _,
+            garbled: _,
+            session: _,
+            unanswered: _,
+            cause: _,
+            closed: _,
+            texts: _,
+            ends: _,
+            written: _,
+        } = self;
+    }
 }
 
 impl Link {

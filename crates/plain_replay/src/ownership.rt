@@ -59,7 +59,6 @@ pub(crate) enum Ending {
 
 /// The owner of a session. The last lease is told as the engine recorded it, and beside it what its library did since
 /// the engine looked last.
-#[derive(Drop)]
 pub(crate) struct Ownership {
     pub(crate) lease: u64,
     pub(crate) library: u64,
@@ -74,6 +73,22 @@ pub(crate) struct Ownership {
     pub(crate) given_back: Option<u64>,
     /// The position that the engine hands to the library next.
     pub(crate) cursor: u64,
+}
+
+impl Drop for Ownership {
+    fn drop(self) {
+        let Ownership {
+            lease: _,
+            library: _,
+            sends: _,
+            ending: _,
+            reserved: _,
+            holdings: _,
+            unseen: _,
+            given_back: _,
+            cursor: _,
+        } = self;
+    }
 }
 
 impl Ownership {

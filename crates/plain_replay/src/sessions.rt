@@ -31,7 +31,6 @@ impl Logged {
     }
 }
 
-#[derive(Drop)]
 pub(crate) struct Session {
     pub(crate) alloc: Global,
     pub(crate) us: Vec<u8>,
@@ -63,6 +62,35 @@ pub(crate) struct Session {
     pub(crate) queued: Vec<Vec<u8>>,
     /// Why its connection ends.
     pub(crate) ends: Option<String>,
+}
+
+impl Drop for Session {
+    fn drop(self) {
+        let Session {
+            alloc: _,
+            us: _,
+            them: _,
+            dials: _,
+            next_dial: _,
+            bound: _,
+            is_on: _,
+            heart: _,
+            expected: _,
+            horizon: _,
+            early: _,
+            last_receipt: _,
+            last_sending: _,
+            tested: _,
+            journal: _,
+            inbound: _,
+            outbound: _,
+            series: _,
+            numbered: _,
+            owned: _,
+            queued: _,
+            ends: _,
+        } = self;
+    }
 }
 
 impl Session {

@@ -19,7 +19,6 @@ pub(crate) struct Limits {
     pub(crate) hold: u64,
 }
 
-#[derive(Drop)]
 pub(crate) struct World {
     pub(crate) alloc: Global,
     pub(crate) limits: Limits,
@@ -31,6 +30,21 @@ pub(crate) struct World {
     pub(crate) libraries: Vec<Library>,
     /// The lines of requests for sessions that there aren't.
     pub(crate) strays: String,
+}
+
+impl Drop for World {
+    fn drop(self) {
+        let World {
+            alloc: _,
+            limits: _,
+            clock: _,
+            moment: _,
+            sessions: _,
+            links: _,
+            libraries: _,
+            strays: _,
+        } = self;
+    }
 }
 
 impl World {

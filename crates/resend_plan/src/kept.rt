@@ -10,10 +10,16 @@ use std::marker::Model;
 
 /// What the messages of a connection mostly have in common, as it is written: the names, and the moment of
 /// a turn. Contracts see both texts.
-#[derive(Debug, Drop)]
+#[derive(Debug)]
 pub struct KeptTexts {
     pub(crate) names: KeptNames,
     pub(crate) stamp: KeptStamp,
+}
+
+impl Drop for KeptTexts {
+    fn drop(self) {
+        let KeptTexts { names: _, stamp: _ } = self;
+    }
 }
 
 impl Model for KeptTexts {

@@ -33,7 +33,6 @@ impl Fault {
 }
 
 /// A wire round one in memory. It tells nothing of bytes.
-#[derive(Drop)]
 pub(crate) struct FaultyWire {
     wire: MemWire,
     fault: Fault,
@@ -45,6 +44,21 @@ pub(crate) struct FaultyWire {
     accepts: u64,
     dials: u64,
     connection: u32,
+}
+
+impl Drop for FaultyWire {
+    fn drop(self) {
+        let FaultyWire {
+            wire: _,
+            fault: _,
+            before: _,
+            reads: _,
+            writes: _,
+            accepts: _,
+            dials: _,
+            connection: _,
+        } = self;
+    }
 }
 
 impl FaultyWire {

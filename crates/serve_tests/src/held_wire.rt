@@ -14,7 +14,6 @@ use std::{rt, thread};
 const GO: &[u8] = b"37=GO";
 
 /// A wire round one in memory. It tells nothing of bytes.
-#[derive(Drop)]
 pub struct HeldWire<'a, R: rt::Clock> {
     wire: MemWire,
     rt: R,
@@ -24,6 +23,19 @@ pub struct HeldWire<'a, R: rt::Clock> {
     begun: bool,
     /// How often a read of connection 0 was blocked.
     blocks: u64,
+}
+
+impl<'a, R: rt::Clock + Drop> Drop for HeldWire<'a, R> {
+    fn drop(self) {
+        let HeldWire {
+            wire: _,
+            rt: _,
+            watched: _,
+            holds: _,
+            begun: _,
+            blocks: _,
+        } = self;
+    }
 }
 
 impl<'a, R: rt::Clock> HeldWire<'a, R> {

@@ -103,19 +103,21 @@ bound_held decide until entries = kept_if (λ s. s.bound) (owes_hold (state_of e
 -- what was read back makes a session
 pub resumed_is_book :
     EntriesDecide
-    → (us them : List ℕ) (dials : Option ℕ) (expected until : ℕ) (read : ReadBack) (machine : State) (leases : ℕ) (entries : List Entry)
+    → (us them : List ℕ) (dials : Option ℕ) (expected until : ℕ) (read : ReadBack) (machine : State) (leases : ℕ) (entries : List Entry) (inbound : List (List ℕ)) (outbound : List (List OutEntry))
     → IsReadBack read
     → length us ≤ LONGEST_NAME
     → length them ≤ LONGEST_NAME
     → machine ≡ new_state us them dials (after_fill fresh_line expected)
     → entries ≡ entries_after_hold until read.entries
-    → IsBook (record { machine = machine; leases = leases; entries = entries; inbound = read.inbound; outbound = read.outbound })
-resumed_is_book decide us them dials expected until read machine leases entries is us_short them_short machine_is entries_are = record {
-  inbound = is.inbound ∙ sym (ap (λ (es : List Entry). (state_of es).inbound) entries_are ∙ inbound_held decide until read.entries);
-  outbound = is.outbound ∙ sym (ap (λ (es : List Entry). (state_of es).series) entries_are ∙ series_held decide until read.entries);
-  begun = is.begun;
+    → inbound ≡ read.inbound
+    → outbound ≡ read.outbound
+    → IsBook (record { machine = machine; leases = leases; entries = entries; inbound = inbound; outbound = outbound })
+resumed_is_book decide us them dials expected until read machine leases entries inbound outbound is us_short them_short machine_is entries_are inbound_is outbound_is = record {
+  inbound = ap length inbound_is ∙ is.inbound ∙ sym (ap (λ (es : List Entry). (state_of es).inbound) entries_are ∙ inbound_held decide until read.entries);
+  outbound = ap lengths outbound_is ∙ is.outbound ∙ sym (ap (λ (es : List Entry). (state_of es).series) entries_are ∙ series_held decide until read.entries);
+  begun = subst (λ log. 1 ≤ length log) (sym outbound_is) is.begun;
   off = λ none. ap (λ (m : State). m.phase) machine_is;
-  fit = is.fit;
+  fit = subst HasFitBodies (sym outbound_is) is.fit;
   us = subst (λ (m : State). length m.names.us ≤ LONGEST_NAME) (sym machine_is) us_short;
   them = subst (λ (m : State). length m.names.them ≤ LONGEST_NAME) (sym machine_is) them_short;
 }

@@ -6,24 +6,37 @@ ghost use Rattle.lease_core.specs.State.{state_of};
 ghost use Rattle.session_core.specs.State.{new_state, IsDialHeart};
 ghost use Rattle.session_book.specs.Kept.{IsBook};
 
+use crate::reads::SessionRecord;
 use fix_fields::LONGEST_NAME;
 use gate_io::{Bytes, NoMemory};
 use lease_core::Registry;
 use message_log::{InLog, OutLog};
 use resend_plan::{Names2, logs_stay_fit};
-use session_core::Session;
+use session_core::{Names, Session};
 use std::alloc::Global;
 use std::marker::Model;
 
 /// A session with its journal and its logs. Contracts see them as one book, and for how many more
 /// entries there is room.
-#[derive(Debug, Drop)]
+#[derive(Debug)]
 pub struct SessionBook {
     pub(crate) machine: Session,
     pub(crate) names: Names2,
     pub(crate) registry: Registry,
     pub(crate) inbound: InLog,
     pub(crate) outbound: OutLog,
+}
+
+impl Drop for SessionBook {
+    fn drop(self) {
+        let SessionBook {
+            machine: _,
+            names: _,
+            registry: _,
+            inbound: _,
+            outbound: _,
+        } = self;
+    }
 }
 
 impl Model for SessionBook {
@@ -80,5 +93,29 @@ impl SessionBook {
     {
         self.registry.reserve(n)?;
         self.outbound.reserve(alloc, n)
+    }
+
+    /// What the run leaves.
+    pub fn into_record(self) -> SessionRecord
+        ensures names { result.names ≡ self.book.machine.names }
+        ensures entries { result.registry.entries ≡ self.book.entries }
+        ensures leases { result.registry.leases ≡ self.book.leases }
+        ensures inbound { result.inbound.items ≡ self.book.inbound }
+        ensures outbound { result.outbound.series ≡ self.book.outbound }
+    {
+        let SessionBook {
+            machine: _,
+            names,
+            registry,
+            inbound,
+            outbound,
+        } = self;
+        let Names2 { us, them } = names;
+        SessionRecord {
+            names: Names { us, them },
+            registry,
+            inbound,
+            outbound,
+        }
     }
 }

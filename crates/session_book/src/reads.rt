@@ -122,28 +122,4 @@ impl SessionBook {
     {
         &self.outbound
     }
-
-    /// What the run leaves.
-    pub fn into_record(self) -> SessionRecord
-        ensures names { result.names ≡ self.book.machine.names }
-        ensures entries { result.registry.entries ≡ self.book.entries }
-        ensures leases { result.registry.leases ≡ self.book.leases }
-        ensures inbound { result.inbound.items ≡ self.book.inbound }
-        ensures outbound { result.outbound.series ≡ self.book.outbound }
-    {
-        let SessionBook {
-            names,
-            registry,
-            inbound,
-            outbound,
-            ..
-        } = self;
-        let Names2 { us, them } = names;
-        SessionRecord {
-            names: Names { us, them },
-            registry,
-            inbound,
-            outbound,
-        }
-    }
 }

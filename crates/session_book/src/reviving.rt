@@ -8,7 +8,7 @@ ghost use Rattle.seq_gaps.specs.Line.{after_fill, fresh_line};
 ghost use Rattle.session_core.specs.Admin.{admin_text, is_session_entry};
 ghost use Rattle.session_core.specs.State.{IsDialHeart, new_state};
 ghost use Rattle.session_core.specs.declared.acts.Admin.{Admin};
-ghost use Rattle.session_book.specs.Reviving.{CanBeSent, LeavesSeries, after_read, inbound_with, is_session_text, nothing_read, outbound_with, after_resume};
+ghost use Rattle.session_book.specs.Reviving.{CanBeSent, IsReadBack, LeavesSeries, after_read, inbound_with, is_session_text, nothing_read, outbound_with, after_resume};
 
 use crate::book::SessionBook;
 use fix_fields::LONGEST_NAME;
@@ -27,11 +27,21 @@ const REJECT_TYPE: &[u8] = b"35=3\x01";
 
 /// What was read back of a session, one record after another: its journal, and the logs that go with
 /// it. `SessionBook::resume` goes on behind it.
-#[derive(Debug, Drop)]
+#[derive(Debug)]
 pub struct Revival {
     recovery: Recovery,
     inbound: InLog,
     outbound: OutLog,
+}
+
+impl Drop for Revival {
+    fn drop(self) {
+        let Revival {
+            recovery: _,
+            inbound: _,
+            outbound: _,
+        } = self;
+    }
 }
 
 impl Model for Revival {
@@ -101,6 +111,24 @@ impl Revival {
         )?;
         self.recovery.record(entry);
         Ok(())
+    }
+
+    /// What was read, in its parts, with room for one more entry of the journal.
+    fn with_room(self) -> Result<(Recovery, InLog, OutLog), NoMemory>
+        ensures is { IsReadBack self }
+        ensures entries { IfOk result (λ parts. parts.0.entries ≡ self.entries) }
+        ensures leases { IfOk result (λ parts. parts.0.leases ≡ self.leases) }
+        ensures room { IfOk result (λ parts. 1 ≤ parts.0.spare) }
+        ensures inbound { IfOk result (λ parts. parts.1.items ≡ self.inbound) }
+        ensures outbound { IfOk result (λ parts. parts.2.series ≡ self.outbound) }
+    {
+        let Revival {
+            mut recovery,
+            inbound,
+            outbound,
+        } = self;
+        recovery.reserve(1)?;
+        Ok((recovery, inbound, outbound))
     }
 }
 
@@ -177,24 +205,41 @@ impl SessionBook {
         ensures bound { IfOk result (λ made. (state_of made.book.entries).bound ≡ (state_of revival.entries).bound) }
     {
         entries_decide_one_by_one();
-        let Revival {
-            mut recovery,
-            inbound,
-            outbound,
-        } = revival;
-        recovery.reserve(1)?;
-        let names = Names2 {
-            us: Bytes::of(Vec::from_slice(alloc, us.as_slice())?),
-            them: Bytes::of(Vec::from_slice(alloc, them.as_slice())?),
-        };
+        let (machine, names) = machine_and_names(alloc, us, them, dials, expected)?;
+        let (recovery, inbound, outbound) = revival.with_room()?;
         Ok(SessionBook {
-            machine: machine_expecting(alloc, us, them, dials, expected)?,
+            machine,
             names,
             registry: Registry::resume(recovery, until),
             inbound,
             outbound,
         })
     }
+}
+
+/// A session machine that is off and expects this number, and the names once more, for what is sent again.
+fn machine_and_names(
+    alloc: Global,
+    us: Vec<u8>,
+    them: Vec<u8>,
+    dials: Option<u32>,
+    expected: u32,
+) -> Result<(Session, Names2), NoMemory>
+    requires us { length us.items ≤ LONGEST_NAME }
+    requires them { length them.items ≤ LONGEST_NAME }
+    requires dials { IfSome dials IsDialHeart }
+    requires from { 1 ≤ expected }
+    requires to { expected ≤ MAX_NUMBER + 1 }
+    ensures machine { IfOk result (λ made. made.0 ≡ new_state us.items them.items dials (after_fill fresh_line expected)) }
+    ensures us { IfOk result (λ made. made.1.us ≡ us.items) }
+    ensures them { IfOk result (λ made. made.1.them ≡ them.items) }
+{
+    let names = Names2 {
+        us: Bytes::of(Vec::from_slice(alloc, us.as_slice())?),
+        them: Bytes::of(Vec::from_slice(alloc, them.as_slice())?),
+    };
+    let machine = machine_expecting(alloc, us, them, dials, expected)?;
+    Ok((machine, names))
 }
 
 /// A session machine that is off and expects this number.

@@ -28,7 +28,7 @@ use std::marker::Model;
 /// A session: its names, the HeartBtInt with which it dials, if it does, how far the Logons of a
 /// connection that stands have come, its number line, and the moments by which its clock goes, in
 /// milliseconds since 1970-01-01.
-#[derive(Debug, Drop)]
+#[derive(Debug)]
 pub struct Session {
     names: Names,
     dials: Option<u32>,
@@ -37,6 +37,20 @@ pub struct Session {
     received: u64,
     sent: u64,
     waiting: Option<u64>,
+}
+
+impl Drop for Session {
+    fn drop(self) {
+        let Session {
+            names: _,
+            dials: _,
+            phase: _,
+            line: _,
+            received: _,
+            sent: _,
+            waiting: _,
+        } = self;
+    }
 }
 
 impl Model for Session {

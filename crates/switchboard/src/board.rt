@@ -1,6 +1,7 @@
 //! The sessions and the connections, and what can be read of them.
 
 ghost use Rattle.std.specs.Prelude.{◌≡◌, ◌≤◌, ◌<◌, ◌+◌, ◌++◌, ◌∷◌, [], length, None, OnOk, OnErr, IfOk};
+ghost use Rattle.std.specs.Vec.{vec_len, vec_capacity};
 ghost use Rattle.connection_core.specs.Connection.{fresh, room};
 ghost use Rattle.connection_core.specs.Outgoing.{no_outgoing};
 ghost use Rattle.connection_core.specs.declared.limits.TheConstants.{MOST_READ};
@@ -17,13 +18,23 @@ use std::marker::Model;
 
 /// The sessions, the connections, and for each session the place of the connection to which it is
 /// bound.
-#[derive(Drop)]
 pub struct Switchboard {
     pub(crate) sessions: Vec<SessionBook>,
     pub(crate) places: Vec<Option<usize>>,
     pub(crate) connections: Vec<Connection>,
     /// Where the items of a session go that is bound to none: there are none.
     pub(crate) nowhere: Outbox,
+}
+
+impl Drop for Switchboard {
+    fn drop(self) {
+        let Switchboard {
+            sessions: _,
+            places: _,
+            connections: _,
+            nowhere: _,
+        } = self;
+    }
 }
 
 impl Model for Switchboard {
@@ -66,8 +77,7 @@ impl Switchboard {
         ensures err { OnErr result (self.new ≡ self.old) }
     {
         is_lawful(&book);
-        self.places.reserve(1)?;
-        self.sessions.reserve(1)?;
+        room_for_one(&mut self.places, &mut self.sessions)?;
         self.places.push(None).unwrap();
         self.sessions.push(book).unwrap();
         Ok(())
@@ -134,8 +144,9 @@ impl Switchboard {
     {
         let Switchboard {
             sessions,
+            places: _,
             connections,
-            ..
+            nowhere: _,
         } = self;
         (sessions, connections)
     }
@@ -146,4 +157,19 @@ pub(crate) fn is_lawful(session: &SessionBook)
     ensures { IsLawful session.now.book }
 {
     let _ = session.expected();
+}
+
+// Room for one more session.
+fn room_for_one(
+    places: &mut Vec<Option<usize>>,
+    sessions: &mut Vec<SessionBook>,
+) -> Result<(), NoMemory>
+    ensures places { places.new.items ≡ places.old.items }
+    ensures sessions { sessions.new.items ≡ sessions.old.items }
+    ensures room_of_places { OnOk result (vec_len places.new < vec_capacity places.new) }
+    ensures room_of_sessions { OnOk result (vec_len sessions.new < vec_capacity sessions.new) }
+{
+    places.reserve(1)?;
+    sessions.reserve(1)?;
+    Ok(())
 }
