@@ -1,5 +1,6 @@
 pub mod Quiet
 pub mod Coming
 pub mod Outset
+pub mod Waited
 pub mod Kept
 pub mod Stopped

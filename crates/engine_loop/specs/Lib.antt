@@ -3,6 +3,7 @@ pub mod Kept
 pub mod Starts
 pub mod Turns
 pub mod Leaving
+pub mod Pausing
 pub mod Stops
 pub use Rattle.wire_desk.specs.Lines
 pub use Rattle.engine_start.specs.declared.ends.LibraryEnds

@@ -13,8 +13,9 @@
 //! Read `engine` (its parts, an operator's questions), `records` (what a turn tells) and `starting`
 //! (how it begins); then `taking` (the first half of a turn), with `accepting`, `dialling`, `reading`,
 //! `ticking`, `serving` and `noting` (its steps), and `giving` (the second half, and both), with
-//! `publishing` (lengths of inbound logs) and `keeping` (writes behind a journal); at last `finishing`
-//! (the end, and meetings) and `laws` (what stays, is written, is left).
+//! `publishing` (lengths of inbound logs), `keeping` (writes behind a journal) and `pausing` (a wait
+//! behind an idle turn); at last `finishing` (the end, and meetings) and `laws` (what stays, is written,
+//! is left).
 //!
 //! Clauses to know first:
 //!
@@ -38,6 +39,7 @@ mod giving;
 mod keeping;
 pub mod laws;
 mod noting;
+mod pausing;
 mod publishing;
 mod reading;
 mod records;
@@ -49,5 +51,6 @@ mod ticking;
 pub use engine::Engine;
 pub use engine_end::EngineRecord;
 pub use engine_start::LibraryEnds;
+pub use pausing::PAUSE;
 pub use records::{Taken, Turn};
 pub use starting::{start, start_from};

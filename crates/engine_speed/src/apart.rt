@@ -8,8 +8,7 @@ use crate::application::{Application, library};
 use crate::gateway::{Gateway, open};
 use crate::texts::morning;
 use anyhow::bail;
-use engine_loop::Turn;
-use gate_io::{NoMemory, WireGot};
+use gate_io::NoMemory;
 use library_desk::Shared;
 use std::alloc::Global;
 use std::sync::atomic::{AtomicBool, Ordering};
@@ -113,7 +112,7 @@ fn drive_all(
         let last = over.load(Ordering::SeqCst);
         let turn = gateway.turn(alloc, shared)?;
         written = written.wrapping_add(turn.written);
-        if !is_idle(&turn) {
+        if !turn.is_idle() {
             idle = 0;
             continue;
         }
@@ -124,16 +123,6 @@ fn drive_all(
         thread::yield_now();
     }
     Ok(written)
-}
-
-// Whether a turn read and wrote nothing.
-fn is_idle(turn: &Turn) -> bool {
-    turn.written == 0
-        && !turn
-            .reads
-            .as_slice()
-            .iter()
-            .any(|read| matches!(read.1, WireGot::Bytes(_)))
 }
 
 // The library's side: it answers so many orders, unless the other side is over before.

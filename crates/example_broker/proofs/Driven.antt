@@ -1,9 +1,10 @@
 -- Turns of the engine.
 use Rattle.std.proofs.Common.{ℕ, Result, Ok, Err}
 use Rattle.std.specs.Prelude.{IfOk, OnErr}
+use Rattle.engine_loop.specs.Pausing.{MakesAndWaits}
 use Rattle.engine_loop.specs.Turns.{AtWire}
 use Rattle.engine_loop.specs.declared.records.Turn.{Turn}
-use Rattle.example_broker.specs.Turns.{Drives, MakesAndWaits}
+use Rattle.example_broker.specs.Turns.{Drives}
 use Rattle.example_broker.proofs.Moves.{repeats_more}
 
 -- one more

@@ -1,9 +1,7 @@
--- The first two of the libraries' ends, and a wire that waited.
+-- The first two of the libraries' ends.
 use Rattle.std.specs.Prelude.{slice_get}
 use Rattle.std.specs.Option.{option_to_list}
 use Rattle.std.proofs.Common.{◌≡◌, ℕ, List, ◌∷◌, ◌++◌, Option, Some, sym, ap, ◌∙◌}
-use Rattle.gate_io.specs.Wire.{Door, Link}
-use Rattle.wire_desk.specs.Lines.{KnowsAsBefore}
 
 -- what an iterator had, and what it has behind the next
 next_is : {T : Type 0} (before after : List T) (next : Option T) (a : T) → before ≡ option_to_list next ++ after → next ≡ Some a → before ≡ a ∷ after
@@ -18,12 +16,3 @@ module _ {T : Type 0} (P : ℕ → T → Type 0) (items : List T) (each : (j : �
 
 pub two_are : {T : Type 0} (items before one two : List T) (next_a next_b : Option T) (a b : T) → before ≡ items → before ≡ option_to_list next_a ++ one → next_a ≡ Some a → one ≡ option_to_list next_b ++ two → next_b ≡ Some b → items ≡ a ∷ b ∷ two
 two_are items before one two next_a next_b a b begins items_a is_a items_b is_b = sym begins ∙ next_is before one next_a a items_a is_a ∙ ap (λ xs. a ∷ xs) (next_is one two next_b b items_b is_b)
-
--- the wire tells the same
-pub knows_same : (before after : Door) (old new : ℕ → Link) → after ≡ before → ((k : ℕ) → new k ≡ old k) → KnowsAsBefore before after old new
-knows_same before after old new door links = record {
-  accepted = ap (λ (d : Door). d.accepted) door;
-  dialled = ap (λ (d : Door). d.dialled) door;
-  closed = λ k. ap (λ (l : Link). l.closed) (links k);
-  written = λ k. ap (λ (l : Link). l.written) (links k);
-}

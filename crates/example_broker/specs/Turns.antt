@@ -1,17 +1,10 @@
 -- What the engine's thread does: turn for turn.
 use Rattle.std.specs.Prelude.{◌≡◌, ℕ, ◌⊎◌}
+use Rattle.engine_loop.specs.Pausing.{MakesAndWaits}
 use Rattle.engine_loop.specs.Stops.{StopsTurn}
-use Rattle.engine_loop.specs.Turns.{AtWire, MakesTurn}
+use Rattle.engine_loop.specs.Turns.{AtWire}
 use Rattle.engine_loop.specs.declared.records.Turn.{Turn}
 use Rattle.example_broker.specs.Trades.{Repeats}
-
--- A turn, behind which the wire may wait: the engine, and what the wire tells, stay.
-pub record MakesAndWaits (reading : ℕ) (turn : Turn) (old new : AtWire) : Type 0 where
-  pub made : AtWire
-  pub makes : MakesTurn reading old made turn
-  pub engine : new.engine ≡ made.engine
-  pub door : new.door ≡ made.door
-  pub links : (k : ℕ) → new.links k ≡ made.links k
 
 -- turns, one behind another, and nothing else
 abbrev pub Drives : AtWire → AtWire → Type 0

@@ -5,8 +5,6 @@ use Rattle.std.specs.Prelude.{◌||◌, slice_get, slice_index_or}
 use Rattle.engine_loop.specs.Turns.{AtWire}
 use Rattle.engine_loop.specs.declared.records.Turn.{Turn}
 use Rattle.gate_io.specs.Clock.{TakesReadings}
-use Rattle.gate_io.specs.Wire.{Door, Link}
-use Rattle.engine_loop.specs.Lines.{KnowsAsBefore}
 use Rattle.serve_run.specs.Drives.{DrivesToEnd}
 use Rattle.engine_loop.specs.declared.engine.Engine.{Engine}
 use Rattle.serve_run.specs.Ended.{Awaits, IsOver, has_said, is_ended, or_ended}
@@ -44,15 +42,6 @@ reads_told connections libraries most over Read Told old new tells drives = reco
   reads = tells drives.last.readings drives.reads;
   ended = drives.ended;
   spent = drives.spent;
-}
-
--- a wire that tells the same is known as before
-pub knows_same : (before after : Door) (old new : ℕ → Link) → after ≡ before → ((k : ℕ) → new k ≡ old k) → KnowsAsBefore before after old new
-knows_same before after old new door links = record {
-  accepted = ap (λ (d : Door). d.accepted) door;
-  dialled = ap (λ (d : Door). d.dialled) door;
-  closed = λ k. ap (λ (l : Link). l.closed) (links k);
-  written = λ k. ap (λ (l : Link). l.written) (links k);
 }
 
 -- what is awaited, by the numbers that the code has

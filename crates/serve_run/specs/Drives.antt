@@ -1,7 +1,8 @@
 -- The engine's side of a run: its turns, one after another.
 use Rattle.std.specs.Prelude.{◌≡◌, ℕ, ◌≤◌, Bool, true, false, List, [], ◌∷◌, ◌++◌}
 use Rattle.engine_loop.specs.Engines.{IsAtWork, IsOnline}
-use Rattle.engine_loop.specs.Turns.{AtWire, MakesTurn}
+use Rattle.engine_loop.specs.Pausing.{MakesAndWaits}
+use Rattle.engine_loop.specs.Turns.{AtWire}
 use Rattle.engine_loop.specs.declared.records.Turn.{Turn}
 use Rattle.lease_desk.specs.Desk.{InTurn}
 use Rattle.library_desk.specs.declared.shared.Shared.{Shared}
@@ -15,14 +16,6 @@ pub record Drive : Type 0 where
 
 abbrev pub drive_of : AtWire → List Turn → List ℕ → Drive
 drive_of at turns readings = record { at = at; turns = turns; readings = readings }
-
--- A turn, behind which the wire may wait: the engine, and what the wire tells, stay.
-pub record MakesAndWaits (reading : ℕ) (turn : Turn) (old new : AtWire) : Type 0 where
-  pub made : AtWire
-  pub makes : MakesTurn reading old made turn
-  pub engine : new.engine ≡ made.engine
-  pub door : new.door ≡ made.door
-  pub links : (c : ℕ) → new.links c ≡ made.links c
 
 -- one turn more, of an engine that is at work over its wire
 pub record DrivesOnce (old new : Drive) : Type 0 where

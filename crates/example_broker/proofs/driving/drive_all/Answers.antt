@@ -6,8 +6,8 @@ use Rattle.example_broker.proofs.driving.drive_all.Goals as goal
 pub turning-preserved : goal.turning-preserved
 turning-preserved g c = record {
   drives = drives_more _ _ _ _ _ c.turning.invariant.drives c.in_ok-turn.ensures.makes;
-  engine = c.turn.ensures.engine;
-  stands = c.in_ok-turn.ensures.stands;
+  engine = c.turn_and_pause.ensures.engine;
+  stands = c.in_ok-turn.ensures.goes_on;
 }
 
 pub returns-then-is_over-clause-drives : goal.returns-then-is_over-clause-drives
@@ -18,13 +18,13 @@ returns-in_err-turn-clause-short g c =
     on_err c.from_residual.result (record {
       driven = at_wire c.turning.engine (g.W.Wire.door c.turning.wire) (g.W.Wire.link c.turning.wire);
       drives = c.turning.invariant.drives;
-      stops = inr (_, c.in_err-turn.ensures.stops);
+      stops = inr (_, c.in_err-turn.ensures.stops c.turning.invariant.stands);
     })
 
 pub returns-in_err-look-clause-short : goal.returns-in_err-look-clause-short
 returns-in_err-look-clause-short g c =
     on_err c.from_residual-in_err-look.result (record {
-      driven = at_wire c.turn.new.engine (g.W.Wire.door c.turn.new.wire) (g.W.Wire.link c.turn.new.wire);
+      driven = at_wire c.turn_and_pause.new.self (g.W.Wire.door c.turn_and_pause.new.wire) (g.W.Wire.link c.turn_and_pause.new.wire);
       drives = drives_more _ _ _ _ _ c.turning.invariant.drives c.in_ok-turn.ensures.makes;
       stops = inl refl;
     })

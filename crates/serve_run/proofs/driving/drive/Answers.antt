@@ -32,7 +32,7 @@ loop-made-preserved g c =
     let libraries = c.args.awaited.now.libraries in
     let own = own_awaits connections libraries was.turns awaited was.awaits in
     let turn = c.in_ok-turn.turn in
-    let reading = g.C.Clock.last c.turn.new.clock in
+    let reading = g.C.Clock.last c.turn_and_pause.new.clock in
     let first = drive_of (at_wire c.loop-made.engine (g.W.Wire.door c.loop-made.wire) (g.W.Wire.link c.loop-made.wire)) was.turns was.readings in
     record {
       turns = was.turns ++ turn ∷ [];
@@ -54,11 +54,11 @@ loop-made-preserved g c =
           };
         },
       );
-      reads = takes_more g.C.Clock.has_read c.args.clock.now c.loop-made.clock c.turn.new.clock was.readings (reading ∷ []) was.reads c.in_ok-turn.ensures.reads;
+      reads = takes_more g.C.Clock.has_read c.args.clock.now c.loop-made.clock c.turn_and_pause.new.clock was.readings (reading ∷ []) was.reads c.in_ok-turn.ensures.readings;
       awaits = awaits_more connections libraries was.turns turn c.is_over.new.self c.hear.new.self (awaits_on connections libraries was.turns awaited c.is_over.new.self was.awaits (c.is_over.ensures.awaits was.turns own))
           (λ place within. c.hear.ensures.said place within ∙ ap (λ (turns : List LibTurn). or_ended (slice_index_or c.is_over.new.self.said place false) (slice_get turns place)) c.as_slice.ensures) c.hear.ensures.rest c.hear.ensures.length;
-      engine = c.turn.ensures.engine;
-      stands = c.in_ok-turn.ensures.stands;
+      engine = c.turn_and_pause.ensures.engine;
+      stands = c.in_ok-turn.ensures.goes_on;
     }
 
 pub returns-clause-drives : goal.returns-clause-drives
@@ -84,12 +84,11 @@ returns-clause-drives g c =
 pub returns-in_err-turn-clause-stops : goal.returns-in_err-turn-clause-stops
 returns-in_err-turn-clause-stops g c =
     let was = c.loop-made.invariant in
-    let stops = c.in_err-turn.ensures.stops in
     on_err c.from_residual.result (record {
       count = c.loop-made._made;
       few = c.loop-made-test.true;
       between = drive_of (at_wire c.loop-made.engine (g.W.Wire.door c.loop-made.wire) (g.W.Wire.link c.loop-made.wire)) was.turns was.readings;
       drives = was.drives;
-      reading = stops.0;
-      stops = stops.1;
+      reading = g.C.Clock.last c.turn_and_pause.new.clock;
+      stops = c.in_err-turn.ensures.stops was.stands;
     })

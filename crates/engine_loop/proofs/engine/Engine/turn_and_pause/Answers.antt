@@ -1,8 +1,8 @@
-use Rattle.std.proofs.Common.{refl, ap, ◌∙◌}
+use Rattle.std.proofs.Common.{◌≡◌, refl, sym, ap, subst, ◌∙◌, true, false}
 use Rattle.engine_loop.specs.Turns.{at_wire}
-use Rattle.example_broker.proofs.Ends.{knows_same}
-use Rattle.example_broker.proofs.driving.turn.Goals as goal
-use Rattle.example_broker.proofs.driving.turn.Goals.{then-is_idle, else-is_idle}
+use Rattle.engine_loop.proofs.Waited.{knows_same}
+use Rattle.engine_loop.proofs.engine.Engine.turn_and_pause.Goals as goal
+use Rattle.engine_loop.proofs.engine.Engine.turn_and_pause.Goals.{then-is_idle, else-is_idle}
 
 pub returns-clause-makes : goal.returns-clause-makes
 returns-clause-makes g c = elim c.if-is_idle.branch [
@@ -20,6 +20,26 @@ returns-clause-makes g c = elim c.if-is_idle.branch [
     door = ap g.W.Wire.door w.wire-is;
     links = λ k. ap (λ wire. g.W.Wire.link wire k) w.wire-is;
   }
+]
+
+pub returns-clause-pauses : goal.returns-clause-pauses
+returns-clause-pauses g c = elim c.if-is_idle.branch [
+  | then-is_idle w ↦ (
+    c.turn.new.wire,
+    c.in_ok-turn.ensures.turns,
+    record {
+      idle = λ _. subst (λ wire. g.W.Wire.pause_gives c.turn.new.wire 1 wire) (sym w.wire-is) w.pause.ensures.exact;
+      busy = λ no. absurd (let untrue : false ≡ true = sym (c.is_idle.ensures ∙ no) ∙ w.if-is_idle.true in cc);
+    },
+  )
+  | else-is_idle w ↦ (
+    c.turn.new.wire,
+    c.in_ok-turn.ensures.turns,
+    record {
+      idle = λ yes. absurd (let untrue : true ≡ false = sym (c.is_idle.ensures ∙ yes) ∙ w.if-is_idle.false in cc);
+      busy = λ _. w.wire-is;
+    },
+  )
 ]
 
 pub returns-clause-engine : goal.returns-clause-engine

@@ -1,0 +1,101 @@
+//! A turn, behind which the wire may wait.
+
+ghost use Rattle.std.specs.Prelude.{◌≡◌, [], ◌∷◌, IfOk, IsErr, OnErr, OnOk, false, true};
+ghost use Rattle.std.specs.List.{list_any};
+ghost use Rattle.engine_loop.specs.Engines.{IsEngine};
+ghost use Rattle.engine_loop.specs.Pausing.{MakesAndWaits, PausesIfIdle, has_bytes, is_answer, is_idle, is_new};
+ghost use Rattle.engine_loop.specs.Stops.{StopsTurn};
+ghost use Rattle.engine_loop.specs.Turns.{MakesTurn, at_wire};
+ghost use Rattle.gate_io.specs.Clock.{TakesReadings};
+ghost use Rattle.gate_io.specs.Counts.{HasRisen};
+
+use crate::engine::Engine;
+use crate::laws::engines_stay;
+use crate::records::Turn;
+use gate_io::{Accepted, Clock, Dial, NoMemory, WireGot};
+use library_desk::{LibTurn, Shared};
+use std::alloc::Global;
+
+/// For how many milliseconds at most the wire waits behind an idle turn.
+pub const PAUSE: u32 = 1;
+
+impl Engine {
+    /// A turn, and behind an idle one a pause of the wire: until something can be done, or for `PAUSE`.
+    /// So a thread that makes turn after turn rests while nothing comes.
+    pub fn turn_and_pause<W: Dial, C: Clock>(
+        &mut self,
+        alloc: Global,
+        shared: &Shared,
+        wire: &mut W,
+        clock: &mut C,
+    ) -> Result<Turn, NoMemory>
+        requires engine { IsEngine shared.now self.old (W.door wire.old) (W.link wire.old) }
+        ensures makes { IfOk result (λ turn. MakesAndWaits (C.last clock.new) turn (at_wire self.old (W.door wire.old) (W.link wire.old)) (at_wire self.new (W.door wire.new) (W.link wire.new))) }
+        // The wire pauses behind an idle turn, and behind no other.
+        ensures pauses { IfOk result (λ turn. (made : W) × MakesTurn (C.last clock.new) (at_wire self.old (W.door wire.old) (W.link wire.old)) (at_wire self.new (W.door made) (W.link made)) turn × PausesIfIdle W.pause_gives turn made wire.new) }
+        ensures clock { OnOk result (HasRisen (C.readings clock.old) (C.readings clock.new)) }
+        // The clock was read once.
+        ensures reading { OnOk result (C.now_gives clock.old (C.last clock.new) clock.new) }
+        ensures readings { OnOk result (TakesReadings C.has_read clock.old (C.last clock.new ∷ []) clock.new) }
+        ensures engine { IsEngine shared.now self.new (W.door wire.new) (W.link wire.new) }
+        ensures goes_on { OnOk result (self.new.failed ≡ false) }
+        ensures failed { OnErr result (self.new.failed ≡ true) }
+        // Without memory the steps before one are made, and of that a beginning.
+        ensures stops { self.old.failed ≡ false → OnErr result (StopsTurn (C.last clock.new) (at_wire self.old (W.door wire.old) (W.link wire.old)) self.new) }
+        // An engine for which memory was wanting does nothing.
+        ensures stands_still { self.old.failed ≡ true → IsErr result }
+        ensures engine_stays { self.old.failed ≡ true → self.new ≡ self.old }
+        ensures wire_stays { self.old.failed ≡ true → wire.new ≡ wire.old }
+        ensures clock_stays { self.old.failed ≡ true → clock.new ≡ clock.old }
+    {
+        engines_stay();
+        let turn = self.turn(alloc, shared, wire, clock)?;
+        if turn.is_idle() {
+            wire.pause(PAUSE);
+        }
+        Ok(turn)
+    }
+}
+
+impl Turn {
+    /// Whether in the turn no connection was accepted, no byte read or written, and no request answered. Dials, ends and
+    /// faults of connections don't count, and neither do sends that were gathered.
+    pub fn is_idle(&self) -> bool
+        ensures { result ≡ is_idle self.now }
+    {
+        !is_new(&self.accepted)
+            && self.written == 0
+            && !any_bytes(self.reads.as_slice())
+            && !any_answer(self.libs.as_slice())
+    }
+}
+
+fn is_new(accepted: &Accepted) -> bool
+    ensures { result ≡ is_new accepted.now }
+{
+    matches!(accepted, Accepted::New(_))
+}
+
+fn any_bytes(reads: &[(u32, WireGot)]) -> bool
+    ensures { result ≡ list_any has_bytes reads.now }
+{
+    reads.iter().any(has_bytes)
+}
+
+fn has_bytes(read: &(u32, WireGot)) -> bool
+    ensures { result ≡ has_bytes read.now }
+{
+    matches!(read.1, WireGot::Bytes(_))
+}
+
+fn any_answer(turns: &[LibTurn]) -> bool
+    ensures { result ≡ list_any is_answer turns.now }
+{
+    turns.iter().any(is_answer)
+}
+
+fn is_answer(turn: &LibTurn) -> bool
+    ensures { result ≡ is_answer turn.now }
+{
+    matches!(turn, LibTurn::Answered { .. })
+}
