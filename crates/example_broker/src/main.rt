@@ -4,11 +4,10 @@
 //! Stands on `engine_config`, `engine_start`, `engine_loop` and `engine_end` (the engine, from its configuration to
 //! its record), `library_api` and `library_calls` (a library, and what its calls come to), `library_desk`,
 //! `lease_words`, `lease_core` and `ring_links` (what engine and libraries share: seats, commands, rings),
-//! `wire_desk` (a definition for the proofs: what is known of the wire), `script_text` (the configuration, read as
-//! lines of a script), `run_report` (the record and its report), `session_core` (names, and why a connection
-//! ended), `fix_frame` and `fix_fields` (frames and fields), `itoa` (decimal numbers), `wire_edge` (the wire over
-//! TCP) and `gate_io` (wire and clock in memory, the system's clock, standard output). Its rules are told in
-//! docs/libraries.md.
+//! `script_text` (the configuration, read as lines of a script), `run_report` (the record and its report),
+//! `session_core` (names, and why a connection ended), `fix_frame` and `fix_fields` (frames and fields), `itoa`
+//! (decimal numbers), `wire_edge` (the wire over TCP) and `gate_io` (wire and clock in memory, the system's clock,
+//! standard output). Its rules are told in docs/libraries.md.
 //!
 //! Read `words` (the configuration), `orders` and `reports` (a message and its answer), `books` and `floor` (what
 //! the threads share), `calling`, `resting`, `answering` and `trading` (a library's thread), `watching` and
