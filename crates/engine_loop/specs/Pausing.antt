@@ -2,7 +2,6 @@
 use Rattle.std.specs.Prelude.{◌≡◌, ℕ, ◌==◌, ◌&&◌, Bool, true, false, not}
 use Rattle.std.specs.List.{list_any}
 use Rattle.engine_loop.specs.Turns.{AtWire, MakesTurn}
-use Rattle.engine_loop.specs.declared.pausing.TheConstants.{PAUSE}
 use Rattle.engine_loop.specs.declared.records.Turn.{Turn}
 use Rattle.gate_io.specs.declared.wires.Accepted.{Accepted}
 use Rattle.gate_io.specs.declared.wires.Accepted.TheVariants as accepts
@@ -42,8 +41,3 @@ pub record MakesAndWaits (reading : ℕ) (turn : Turn) (old new : AtWire) : Type
   pub engine : new.engine ≡ made.engine
   pub door : new.door ≡ made.door
   pub links : (c : ℕ) → new.links c ≡ made.links c
-
--- behind an idle turn the wire is told to pause, and behind any other it isn't
-pub record PausesIfIdle {W : Type 0} (pause_gives : W → ℕ → W → Type 0) (turn : Turn) (made new : W) : Type 0 where
-  pub idle : is_idle turn ≡ true → pause_gives made PAUSE new
-  pub busy : is_idle turn ≡ false → new ≡ made

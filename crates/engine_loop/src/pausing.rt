@@ -3,7 +3,7 @@
 ghost use Rattle.std.specs.Prelude.{◌≡◌, [], ◌∷◌, IfOk, IsErr, OnErr, OnOk, false, true};
 ghost use Rattle.std.specs.List.{list_any};
 ghost use Rattle.engine_loop.specs.Engines.{IsEngine};
-ghost use Rattle.engine_loop.specs.Pausing.{MakesAndWaits, PausesIfIdle, has_bytes, is_answer, is_idle, is_new};
+ghost use Rattle.engine_loop.specs.Pausing.{MakesAndWaits, has_bytes, is_answer, is_idle, is_new};
 ghost use Rattle.engine_loop.specs.Stops.{StopsTurn};
 ghost use Rattle.engine_loop.specs.Turns.{MakesTurn, at_wire};
 ghost use Rattle.gate_io.specs.Clock.{TakesReadings};
@@ -31,8 +31,8 @@ impl Engine {
     ) -> Result<Turn, NoMemory>
         requires engine { IsEngine shared.now self.old (W.door wire.old) (W.link wire.old) }
         ensures makes { IfOk result (λ turn. MakesAndWaits (C.last clock.new) turn (at_wire self.old (W.door wire.old) (W.link wire.old)) (at_wire self.new (W.door wire.new) (W.link wire.new))) }
-        // The wire pauses behind an idle turn, and behind no other.
-        ensures pauses { IfOk result (λ turn. (made : W) × MakesTurn (C.last clock.new) (at_wire self.old (W.door wire.old) (W.link wire.old)) (at_wire self.new (W.door made) (W.link made)) turn × PausesIfIdle W.pause_gives turn made wire.new) }
+        // Behind an idle turn the wire pauses.
+        ensures pauses { IfOk result (λ turn. is_idle turn ≡ true → (made : W) × MakesTurn (C.last clock.new) (at_wire self.old (W.door wire.old) (W.link wire.old)) (at_wire self.new (W.door made) (W.link made)) turn × W.pause_gives made PAUSE wire.new) }
         ensures clock { OnOk result (HasRisen (C.readings clock.old) (C.readings clock.new)) }
         // The clock was read once.
         ensures reading { OnOk result (C.now_gives clock.old (C.last clock.new) clock.new) }

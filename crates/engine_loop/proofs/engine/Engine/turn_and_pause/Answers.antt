@@ -24,22 +24,8 @@ returns-clause-makes g c = elim c.if-is_idle.branch [
 
 pub returns-clause-pauses : goal.returns-clause-pauses
 returns-clause-pauses g c = elim c.if-is_idle.branch [
-  | then-is_idle w ↦ (
-    c.turn.new.wire,
-    c.in_ok-turn.ensures.turns,
-    record {
-      idle = λ _. subst (λ wire. g.W.Wire.pause_gives c.turn.new.wire 1 wire) (sym w.wire-is) w.pause.ensures.exact;
-      busy = λ no. absurd (let untrue : false ≡ true = sym (c.is_idle.ensures ∙ no) ∙ w.if-is_idle.true in cc);
-    },
-  )
-  | else-is_idle w ↦ (
-    c.turn.new.wire,
-    c.in_ok-turn.ensures.turns,
-    record {
-      idle = λ yes. absurd (let untrue : true ≡ false = sym (c.is_idle.ensures ∙ yes) ∙ w.if-is_idle.false in cc);
-      busy = λ _. w.wire-is;
-    },
-  )
+  | then-is_idle w ↦ λ _. (c.turn.new.wire, c.in_ok-turn.ensures.turns, subst (λ wire. g.W.Wire.pause_gives c.turn.new.wire 1 wire) (sym w.wire-is) w.pause.ensures.exact)
+  | else-is_idle w ↦ λ yes. absurd (let untrue : true ≡ false = sym (c.is_idle.ensures ∙ yes) ∙ w.if-is_idle.false in cc)
 ]
 
 pub returns-clause-engine : goal.returns-clause-engine
