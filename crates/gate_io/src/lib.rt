@@ -7,7 +7,7 @@
 //!
 //! Read `lists` (bytes, texts and values in fields) and `no_memory` (the error of want of memory); then the traits
 //! `sources` (bytes to read), `sinks` (bytes to write), `wires` (connections, by their numbers), `dials` (a wire
-//! that also dials), `clocks` (the moment) and `gates` (whether a library may go on). Their forms in memory are
+//! that also dials), `clocks` (the moment) and `gates` (whether a library may go on, and where threads wait for each other). Their forms in memory are
 //! `mem_source`, `mem_sink`, `step_clock` and, for the wire, `places` (scripted places of a write), `mem_link` (one
 //! connection) and `mem_wire` (all of them); the adapters are `file_source`, `std_sink` and `real_clock`; `whole`
 //! (a source or bytes to their end) comes last.
@@ -43,7 +43,7 @@ mod wires;
 pub use clocks::{Clock, LAST_MOMENT};
 pub use dials::{Dial, Dialled};
 pub use file_source::FileSource;
-pub use gates::{Gate, OpenGate};
+pub use gates::{Gate, Lack, OpenGate};
 pub use lists::{Bytes, Label, Rows};
 pub use mem_sink::MemSink;
 pub use mem_source::MemSource;

@@ -1,6 +1,6 @@
 //! Which library fell silent: the last beat of each, and since when it stands.
 
-ghost use Rattle.std.specs.Prelude.{◌≡◌, ◌≢◌, ℕ, ◌+◌, ◌-◌, ◌≤◌, ◌↔◌, IfOk, IfSome, IsSome, length, replicate, slice_set};
+ghost use Rattle.std.specs.Prelude.{◌≡◌, ◌≢◌, ℕ, ◌+◌, ◌-◌, ◌≤◌, ◌↔◌, ◌^◌, IfOk, IfSome, IsSome, length, min, replicate, slice_set};
 ghost use Rattle.library_clock.specs.Watched.{kept_of, kept_after};
 
 use super::kept::Kept;
@@ -82,5 +82,15 @@ impl Watch {
         } else {
             None
         }
+    }
+
+    /// The least moment at which a library has expired, as long as its beat stands: at most 2^64 - 1.
+    pub fn silent_at(&self, library: u8) -> u64
+        requires library { 1 ≤ library }
+        requires watched { library ≤ length self.now.kept }
+        ensures { result ≡ min ((kept_of self.now library).since + self.now.timeout) (2 ^ 64 - 1) }
+    {
+        let place = usize::from(library - 1);
+        self.kept[place].since.saturating_add(self.timeout)
     }
 }

@@ -56,7 +56,7 @@ impl<T> Model for Tail<T> {
 }
 
 impl<T> Tail<T> {
-    ghost use Rattle.std.specs.Prelude.{◌≡◌, [], ◌<◌};
+    ghost use Rattle.std.specs.Prelude.{◌≡◌, [], ◌<◌, length};
     ghost use Rattle.ring_links.specs.Ends.{ring_id, new_tail};
     ghost use Rattle.ring_links.specs.Order.{tail_view, new_pushing};
 
@@ -68,6 +68,13 @@ impl<T> Tail<T> {
             seat,
             pushed: Cursor::start(),
         }
+    }
+
+    /// How many items it pushed.
+    pub fn pushed(&self) -> u64
+        ensures { result ≡ length self.now.pushed }
+    {
+        self.pushed.count
     }
 }
 
