@@ -3,6 +3,7 @@ pub mod Kept
 pub mod Starts
 pub mod Turns
 pub mod Leaving
+pub mod Due
 pub mod Pausing
 pub mod Stops
 pub use Rattle.wire_desk.specs.Lines

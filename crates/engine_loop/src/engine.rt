@@ -1,9 +1,10 @@
 //! The engine, and what an operator can ask of it.
 
-ghost use Rattle.std.specs.Prelude.{◌≡◌, ◌<◌, length};
+ghost use Rattle.std.specs.Prelude.{◌≡◌, ◌-◌, ◌<◌, ◌≤◌, Some, length, slice_get};
 ghost use Rattle.engine_loop.specs.Engines.{until_of};
 ghost use Rattle.lease_core.specs.State.{lease_of, state_of};
 ghost use Rattle.lease_desk.specs.Desk.{owner_at};
+ghost use Rattle.library_desk.specs.declared.ends.EngineEnds.{EngineEnds};
 ghost use Rattle.switchboard.specs.Board.{book_at, connection_at};
 ghost use Rattle.switchboard.specs.Sound.{bound_of};
 
@@ -56,6 +57,15 @@ impl Engine {
         ensures lease { result.1 ≡ lease_of (state_of (book_at self.now.sessions.desk.board s).entries) }
     {
         self.sessions.desk.board.session(s as usize).owner()
+    }
+
+    /// How many notices a library was told in all, by its number from 1 on.
+    pub fn told(&self, library: u8) -> u64
+        requires one { 1 ≤ library }
+        requires known { library ≤ length self.now.sessions.ends.items }
+        ensures { (ends : EngineEnds) → slice_get self.now.sessions.ends.items (library - 1) ≡ Some ends → result ≡ length ends.tail.pushed }
+    {
+        self.sessions.ends[usize::from(library - 1)].tail.pushed()
     }
 
     /// How many connections came, accepted or dialled.

@@ -6,16 +6,17 @@
 //! engine's seat, what happens to them, their laws), `engine_config`, `engine_start` and `engine_end`
 //! (the configuration, both ends of a run), `durable_journal` (the journal that is kept),
 //! `session_book` and `lease_core` (notes and records of entries, commands and notices), `lease_words`
-//! and `ring_links` (the libraries' seats and ends of rings), `session_core` and `connection_core`
-//! (names, causes, the most that is read), `catchup_pump` (cursors, in proofs) and `gate_io` (wire,
-//! clock, want of memory). Its rules are told in docs/engine.md.
+//! and `ring_links` (the libraries' seats and ends of rings), `library_clock` (when a library falls
+//! silent), `session_core` and `connection_core` (names, causes, the most that is read, the wait for a
+//! Logon), `catchup_pump` (cursors, in proofs) and `gate_io` (wire, clock, gate, want of memory). Its
+//! rules are told in docs/engine.md.
 //!
 //! Read `engine` (its parts, an operator's questions), `records` (what a turn tells) and `starting`
 //! (how it begins); then `taking` (the first half of a turn), with `accepting`, `dialling`, `reading`,
 //! `ticking`, `serving` and `noting` (its steps), and `giving` (the second half, and both), with
-//! `publishing` (lengths of inbound logs), `keeping` (writes behind a journal) and `pausing` (a wait
-//! behind an idle turn); at last `finishing` (the end, and meetings) and `laws` (what stays, is written,
-//! is left).
+//! `publishing` (lengths of inbound logs), `keeping` (writes behind a journal), `due` (for how long
+//! nothing is due) and `pausing` (a wait behind an idle turn); at last `finishing` (the end, and
+//! meetings) and `laws` (what stays, is written, is left).
 //!
 //! Clauses to know first:
 //!
@@ -33,6 +34,7 @@
 
 mod accepting;
 mod dialling;
+mod due;
 mod engine;
 mod finishing;
 mod giving;
@@ -48,9 +50,9 @@ mod starting;
 mod taking;
 mod ticking;
 
+pub use due::LONGEST_PAUSE;
 pub use engine::Engine;
 pub use engine_end::EngineRecord;
 pub use engine_start::LibraryEnds;
-pub use pausing::PAUSE;
 pub use records::{Taken, Turn};
 pub use starting::{start, start_from};

@@ -12,7 +12,7 @@ use crate::orders::{Asked, Order, asked_of};
 use crate::reports::{cancel_reject_text, fill_text, misfit_text};
 use crate::resting::rest;
 use fix_fields::{FieldError, Fields};
-use gate_io::NoMemory;
+use gate_io::{Lack, NoMemory};
 use library_api::{Library, Links};
 use std::alloc::Global;
 use std::rt;
@@ -30,13 +30,14 @@ pub enum Answer {
     Gone,
 }
 
-/// Answers the message at position `pos` of session `s`, over the session's book.
+/// The library with this number answers the message at position `pos` of session `s`, over the session's book.
 pub(crate) fn answer_message<R: Wait + rt::Clock>(
     rt: &R,
     alloc: Global,
     library: &mut Library,
     links: &Links,
     floor: &Floor,
+    trader: u8,
     s: u16,
     pos: u64,
     bytes: &[u8],
@@ -51,7 +52,7 @@ pub(crate) fn answer_message<R: Wait + rt::Clock>(
     if pos < book.next {
         return Ok(Answer::Passed);
     }
-    let answer = answer_unread(rt, alloc, library, links, floor, s, bytes, book)?;
+    let answer = answer_unread(rt, alloc, library, links, floor, trader, s, bytes, book)?;
     if is_gone(answer) {
         return Ok(answer);
     }
@@ -73,6 +74,7 @@ fn answer_unread<R: Wait + rt::Clock>(
     library: &mut Library,
     links: &Links,
     floor: &Floor,
+    trader: u8,
     s: u16,
     bytes: &[u8],
     book: &mut Book,
@@ -89,15 +91,15 @@ fn answer_unread<R: Wait + rt::Clock>(
         Err(_other) => return Ok(Answer::Passed),
     };
     match asked_of(&fields) {
-        Asked::Order(order) => fill(rt, alloc, library, links, floor, s, &order, book),
+        Asked::Order(order) => fill(rt, alloc, library, links, floor, trader, s, &order, book),
         Asked::Cancel(cancel) => {
             let fill = book.fill_of(cancel.original);
             let text = cancel_reject_text(alloc, s, &cancel, fill)?;
-            Ok(pass(rt, library, links, floor, s, text))
+            Ok(pass(rt, library, links, floor, trader, s, text))
         }
         Asked::Misfit(misfit) => {
             let text = misfit_text(alloc, &misfit)?;
-            Ok(pass(rt, library, links, floor, s, text))
+            Ok(pass(rt, library, links, floor, trader, s, text))
         }
         Asked::Nothing => Ok(Answer::Passed),
     }
@@ -110,6 +112,7 @@ fn fill<R: Wait + rt::Clock>(
     library: &mut Library,
     links: &Links,
     floor: &Floor,
+    trader: u8,
     s: u16,
     order: &Order<'_>,
     book: &mut Book,
@@ -128,7 +131,7 @@ fn fill<R: Wait + rt::Clock>(
     let id = Vec::from_slice(alloc, order.id)?;
     // All memory is there before the report goes out.
     book.make_room()?;
-    if send_until(rt, library, links, floor, s, text) {
+    if send_until(rt, library, links, floor, trader, s, text) {
         book.note(id, number);
         Ok(Answer::Filled)
     } else {
@@ -142,6 +145,7 @@ fn pass<R: Wait + rt::Clock>(
     library: &mut Library,
     links: &Links,
     floor: &Floor,
+    trader: u8,
     s: u16,
     text: Vec<u8>,
 ) -> Answer
@@ -149,7 +153,7 @@ fn pass<R: Wait + rt::Clock>(
     ensures sends { SendsAnswer s text.items result library.old library.new }
     ensures belongings { belongings library.new.ends ≡ belongings library.old.ends }
 {
-    if send_until(rt, library, links, floor, s, text) {
+    if send_until(rt, library, links, floor, trader, s, text) {
         Answer::Passed
     } else {
         Answer::Gone
@@ -162,6 +166,7 @@ fn send_until<R: Wait + rt::Clock>(
     library: &mut Library,
     links: &Links,
     floor: &Floor,
+    trader: u8,
     s: u16,
     text: Vec<u8>,
 ) -> bool
@@ -182,7 +187,7 @@ fn send_until<R: Wait + rt::Clock>(
                 text = back;
             }
         }
-        rest(rt, library);
+        rest(rt, floor, trader, Lack::Room);
     }
     unreachable!()
 }

@@ -8,8 +8,8 @@ use crate::floor::{Floor, SHIFT};
 use fix_frame::{is_body, write_frame};
 use gate_io::{Accepted, Dial, Dialled, Listened, MemWire, NoMemory, Wire, WireGot, WireWrote};
 use std::alloc::Global;
+use std::sync::Wait;
 use std::time::Duration;
-use std::{rt, thread};
 
 /// How many orders it sends: some of them behind the first hand-over.
 pub(crate) const ORDERS: u64 = 1_200;
@@ -72,7 +72,7 @@ fn has_moved(floor: &Floor) -> bool {
 
 /// The wire with the counterparty.
 #[derive(Drop)]
-pub struct SpokenWire<'a, R: rt::Clock> {
+pub struct SpokenWire<'a, R: Wait> {
     wire: MemWire,
     rt: R,
     floor: &'a Floor,
@@ -81,7 +81,7 @@ pub struct SpokenWire<'a, R: rt::Clock> {
     blocks: u64,
 }
 
-impl<'a, R: rt::Clock + Drop> SpokenWire<'a, R> {
+impl<'a, R: Wait + Drop> SpokenWire<'a, R> {
     /// A wire of which the counterparty's connection waits to be accepted.
     pub(crate) fn new(alloc: Global, rt: R, floor: &'a Floor) -> Result<SpokenWire<'a, R>, NoMemory>
         ensures accepted { IfOk result (λ w. w.wire.accepted ≡ 0) }
@@ -148,7 +148,7 @@ fn message(alloc: Global, kind: &str, number: u64, rest: &str) -> Result<Vec<u8>
     }
 }
 
-impl<'a, R: rt::Clock> Wire for SpokenWire<'a, R> {
+impl<'a, R: Wait> Wire for SpokenWire<'a, R> {
     ghost link = { λ w c. if c == 0 then record (link_at w.wire c) { left = None; written = None; plan = None; read_blocks = w.blocks } else record (link_at w.wire c) { left = None; written = None; plan = None } };
 
     ghost door = { λ w. record (door_of w.wire) { plan = None } };
@@ -193,12 +193,13 @@ impl<'a, R: rt::Clock> Wire for SpokenWire<'a, R> {
     }
 
     fn pause(&mut self, ms: u32) {
-        thread::sleep(&self.rt, Duration::from_millis(u64::from(ms)));
+        let bell = self.floor.bells().engine();
+        bell.sleep(&self.rt, Duration::from_millis(u64::from(ms)));
         self.wire.pause(ms);
     }
 }
 
-impl<'a, R: rt::Clock> Dial for SpokenWire<'a, R> {
+impl<'a, R: Wait> Dial for SpokenWire<'a, R> {
     fn dial(&mut self, address: &str) -> Dialled {
         self.wire.dial(address)
     }

@@ -11,9 +11,12 @@ use engine_loop::Engine;
 use gate_io::{Clock, Dial, NoMemory};
 use library_desk::{LibTurn, Shared};
 use std::alloc::Global;
+use std::rt;
+use std::sync::Wait;
+use thread_bells::BellGate;
 
 /// Makes turns until so many connections came and have ended, and each library said that it is done.
-pub(crate) fn drive<R: Eprint, W: Dial, C: Clock>(
+pub(crate) fn drive<R: Eprint + Wait + rt::Clock, W: Dial, C: Clock>(
     rt: &R,
     alloc: Global,
     shared: &Shared,
@@ -46,7 +49,7 @@ pub(crate) fn drive<R: Eprint, W: Dial, C: Clock>(
     outcome
 }
 
-fn drive_all<R: Eprint, W: Dial, C: Clock>(
+fn drive_all<R: Eprint + Wait + rt::Clock, W: Dial, C: Clock>(
     rt: &R,
     alloc: Global,
     shared: &Shared,
@@ -64,9 +67,10 @@ fn drive_all<R: Eprint, W: Dial, C: Clock>(
     ensures engine { IsEngine shared.now engine.new (W.door wire.new) (W.link wire.new) }
     ensures stands { OnOk result (engine.new.failed ≡ false) }
 {
+    let gate = BellGate::new(rt, floor.bells());
     let mut working = shared.commands.len();
     'turning: for _turn in 0..u64::MAX {
-        let turn = engine.turn_and_pause(alloc, shared, wire, clock)?;
+        let turn = engine.turn_and_pause(alloc, shared, wire, clock, &gate)?;
         watch.look(rt, engine, floor)?;
         working = working.saturating_sub(ended_in(turn.libs.as_slice()));
         if is_over(watch, floor, connections, working) {

@@ -4,10 +4,12 @@ ghost use Rattle.std.specs.Prelude.{◌≡◌, ◌≤◌, IfOk, length, min};
 ghost use Rattle.example_broker.specs.Floors.{place_at};
 
 use crate::books::Book;
+use engine_config::Config;
 use gate_io::NoMemory;
 use std::alloc::Global;
 use std::sync::Mutex;
 use std::sync::atomic::{AtomicU64, Ordering};
+use thread_bells::Bells;
 
 /// How many libraries there are.
 pub(crate) const LIBRARIES: u8 = 2;
@@ -31,8 +33,9 @@ pub struct Place {
     fills: AtomicU64,
     /// How often the other library asked for the session.
     asked: AtomicU64,
-    /// How often the session was let go for it.
+    /// How often the session was let go for it, and had been asked for when a library last took it.
     let_go: AtomicU64,
+    taken: AtomicU64,
     /// The last lease that a library handed to the other, and the last one that it gave back for nobody.
     handed: AtomicU64,
     given_back: AtomicU64,
@@ -45,6 +48,7 @@ impl Drop for Place {
             fills: _,
             asked: _,
             let_go: _,
+            taken: _,
             handed: _,
             given_back: _,
         } = self;
@@ -58,6 +62,7 @@ impl Place {
             fills: AtomicU64::new(0),
             asked: AtomicU64::new(0),
             let_go: AtomicU64::new(0),
+            taken: AtomicU64::new(0),
             handed: AtomicU64::new(0),
             given_back: AtomicU64::new(0),
         }
@@ -86,11 +91,24 @@ impl Place {
         if turn == 0 { 1 } else { 2 }
     }
 
+    /// Whether there were enough fills for the library that isn't to have the session to ask for it: but not while it is
+    /// on its way to the other, for which it is reserved.
+    pub(crate) fn is_due(&self) -> bool {
+        let asked = self.asked.load(Ordering::SeqCst);
+        self.fills() / SHIFT > asked && self.taken.load(Ordering::SeqCst) == asked
+    }
+
+    /// A library has taken the session.
+    pub(crate) fn take(&self) {
+        let asked = self.asked.load(Ordering::SeqCst);
+        self.taken.store(asked, Ordering::SeqCst);
+    }
+
     /// The library that isn't to have the session asks for it, once there were enough fills. No two of them do so at
     /// a time, since whoever asked is the one that is to have it.
     pub(crate) fn ask_if_due(&self) {
-        let asked = self.asked.load(Ordering::SeqCst);
-        if self.fills() / SHIFT > asked {
+        if self.is_due() {
+            let asked = self.asked.load(Ordering::SeqCst);
             self.asked.store(asked.saturating_add(1), Ordering::SeqCst);
         }
     }
@@ -135,6 +153,8 @@ pub struct Floor {
     places: Vec<Place>,
     /// The place of every session that isn't configured: there is none of which a message comes.
     nowhere: Place,
+    /// By which the threads wake each other.
+    bells: Bells,
     /// Each connection has ended: the libraries are to finish.
     closing: AtomicU64,
     /// The engine makes no turn any more.
@@ -153,9 +173,17 @@ impl Floor {
         Ok(Floor {
             places,
             nowhere: Place::new(alloc),
+            bells: Bells::new(alloc, usize::from(LIBRARIES))?,
             closing: AtomicU64::new(0),
             stopped: AtomicU64::new(0),
         })
+    }
+
+    /// A floor of the sessions of a configuration.
+    pub(crate) fn of(alloc: Global, config: &Config) -> Result<Floor, NoMemory>
+        ensures { IfOk result (λ floor. length floor.places.items ≡ length config.now.names) }
+    {
+        Floor::new(alloc, config.names.as_slice().len())
     }
 
     /// How many sessions there are.
@@ -175,8 +203,21 @@ impl Floor {
         }
     }
 
+    pub(crate) fn bells(&self) -> &Bells {
+        &self.bells
+    }
+
+    /// The library with this number did something for the other one.
+    pub(crate) fn wake_other(&self, number: u8) {
+        self.bells.wake(if number == 1 { 2 } else { 1 });
+    }
+
     pub(crate) fn close(&self) {
-        self.closing.store(1, Ordering::SeqCst);
+        if !self.is_closing() {
+            self.closing.store(1, Ordering::SeqCst);
+            self.bells.wake(1);
+            self.bells.wake(2);
+        }
     }
 
     pub(crate) fn is_closing(&self) -> bool {
@@ -185,6 +226,7 @@ impl Floor {
 
     pub(crate) fn stop(&self) {
         self.stopped.store(1, Ordering::SeqCst);
+        self.bells.end();
     }
 
     pub(crate) fn has_stopped(&self) -> bool {

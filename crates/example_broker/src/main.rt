@@ -6,8 +6,8 @@
 //! `lease_words`, `lease_core` and `ring_links` (what engine and libraries share: seats, commands, rings),
 //! `script_text` (the configuration, read as lines of a script), `run_report` (the record and its report),
 //! `session_core` (names, and why a connection ended), `fix_frame` and `fix_fields` (frames and fields), `itoa`
-//! (decimal numbers), `wire_edge` (the wire over TCP) and `gate_io` (wire and clock in memory, the system's clock,
-//! standard output). Its rules are told in docs/libraries.md.
+//! (decimal numbers), `thread_bells` (how the threads wake each other), `wire_edge` (the wire over TCP) and `gate_io`
+//! (wire and clock in memory, the system's clock, standard output). Its rules are told in docs/libraries.md.
 //!
 //! Read `words` (the configuration), `orders` and `reports` (a message and its answer), `books` and `floor` (what
 //! the threads share), `calling`, `resting`, `answering` and `trading` (a library's thread), `watching` and
@@ -42,6 +42,7 @@ mod trading;
 mod watching;
 mod words;
 
+use crate::floor::Floor;
 use crate::printing::{Ended, all_words, end, print_counts, print_report};
 use crate::running::{serve, show};
 use crate::words::{Words, words_of};
@@ -60,16 +61,19 @@ fn main(rt: HostRuntime) -> ExitCode {
             Ok((record, reports)) => print_counts(&rt, &record, reports),
             Err(_) => Ended::OutOfMemory,
         },
-        Ok(Words::Serve { address, config }) => {
-            let mut wire = NetWire::new(rt, alloc);
-            let mut clock = RealClock::new(rt);
-            let outcome = serve(&rt, alloc, address, config, &mut wire, &mut clock);
-            wire.finish();
-            match outcome {
-                Ok(record) => print_report(&rt, &record),
-                Err(why) => Ended::of_run(why),
+        Ok(Words::Serve { address, config }) => match Floor::of(alloc, &config) {
+            Ok(floor) => {
+                let mut wire = NetWire::new(rt, alloc, floor.bells().engine());
+                let mut clock = RealClock::new(rt);
+                let outcome = serve(&rt, alloc, address, config, &floor, &mut wire, &mut clock);
+                wire.finish();
+                match outcome {
+                    Ok(record) => print_report(&rt, &record),
+                    Err(why) => Ended::of_run(why),
+                }
             }
-        }
+            Err(_) => Ended::OutOfMemory,
+        },
         Err(why) => Ended::of_words(why),
     };
     end(&rt, ended)

@@ -51,6 +51,7 @@ pub(crate) fn serve<R: Threads + Wait + Eprint + rt::Clock + Sync, W: Dial + Sen
     alloc: Global,
     address: &str,
     config: Config,
+    floor: &Floor,
     wire: &mut W,
     clock: &mut C,
 ) -> Result<RunRecord, NoRun>
@@ -65,13 +66,12 @@ pub(crate) fn serve<R: Threads + Wait + Eprint + rt::Clock + Sync, W: Dial + Sen
         Listened::OutOfMemory => return Err(NoRun::OutOfMemory),
         Listened::Failed => return Err(NoRun::ListenFault),
     }
-    let floor = Floor::new(alloc, config.names.as_slice().len())?;
-    let record = run(rt, alloc, config, &floor, wire, clock)?;
+    let record = run(rt, alloc, config, floor, wire, clock)?;
     Ok(record)
 }
 
 /// Trades with the counterparty in memory. Answers how many reports came to it too.
-pub(crate) fn show<R: Threads + Wait + Eprint + rt::Clock + Sync, D: rt::Clock + Drop + Send>(
+pub(crate) fn show<R: Threads + Wait + Eprint + rt::Clock + Sync, D: Wait + Drop + Send>(
     rt: &R,
     alloc: Global,
     sleeper: D,
@@ -106,6 +106,7 @@ fn run<R: Threads + Wait + Eprint + rt::Clock + Sync, W: Dial + Send, C: Clock +
     let connections = config.connections as usize;
     let sessions = config.names.as_slice().len();
     let asks = config.asks;
+    floor.bells().begin(config.timeout);
     let mut watch = Watch::new(alloc, sessions)?;
     let moment = clock.now().min(LAST_MOMENT);
     let (mut engine, shared, ends) = start(alloc, config, moment)?;

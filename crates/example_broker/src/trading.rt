@@ -8,8 +8,8 @@ ghost use Rattle.example_broker.specs.Trades.{AnswersOver, BeginsRound, FollowsO
 use crate::answering::{Answer, answer_message};
 use crate::calling::{give_back, hand, poll, request, say_done};
 use crate::floor::Floor;
-use crate::resting::{NAP, WAKEFUL, rest};
-use gate_io::NoMemory;
+use crate::resting::{NAP, rest};
+use gate_io::{Lack, NoMemory};
 use library_api::{Event, Library, Links};
 use library_desk::Shared;
 use std::alloc::Global;
@@ -18,7 +18,7 @@ use std::time::Duration;
 use std::{rt, thread};
 
 /// Behind so many polls in a row that found nothing a library ends, where each connection has ended.
-const QUIET: u64 = WAKEFUL + 200;
+const QUIET: u64 = 200;
 
 /// How many rounds a library makes at most before it looks at all sessions.
 const ROUNDS: u32 = 64;
@@ -122,14 +122,19 @@ fn round<R: Wait + rt::Clock>(
     ensures number { desk.new.number ≡ desk.old.number }
     ensures belongings { belongings library.new.ends ≡ belongings library.old.ends }
 {
+    let looks = desk.rounds == 0;
     look_if_due(rt, library, links, floor, desk);
     let event = poll(library, links);
     let answered = follow(rt, alloc, library, links, floor, desk, &event)?;
     part(library, links, floor, desk, answered);
-    if library.waited().count() > 0 {
-        // The sessions are looked at next.
-        desk.rounds = 0;
-        rest(rt, library);
+    if library.waited().count() == 0 {
+        floor.bells().acted(rt, u32::from(desk.number));
+        return Ok(());
+    }
+    desk.rounds = 0;
+    // It waits only behind a look at all sessions: else it looks at them next.
+    if looks {
+        rest(rt, floor, desk.number, Lack::News);
     }
     Ok(())
 }
@@ -153,10 +158,21 @@ fn follow<R: Wait + rt::Clock>(
     match event {
         Event::Message { s, pos, bytes, .. } => {
             desk.reads = desk.reads.saturating_add(1);
-            let answer = answer(rt, alloc, library, links, floor, *s, *pos, bytes.as_slice())?;
+            let answer = answer(
+                rt,
+                alloc,
+                library,
+                links,
+                floor,
+                desk.number,
+                *s,
+                *pos,
+                bytes.as_slice(),
+            )?;
             Ok(Some((*s, answer)))
         }
         Event::Granted { s, lease, .. } => {
+            floor.place(*s).take();
             desk.set_lease(*s, *lease);
             Ok(None)
         }
@@ -177,6 +193,7 @@ fn answer<R: Wait + rt::Clock>(
     library: &mut Library,
     links: &Links,
     floor: &Floor,
+    number: u8,
     s: u16,
     pos: u64,
     bytes: &[u8],
@@ -189,9 +206,14 @@ fn answer<R: Wait + rt::Clock>(
     let place = floor.place(s);
     let mut guard = place.book.lock(rt);
     let book = &mut *guard;
-    let answer = answer_message(rt, alloc, library, links, floor, s, pos, bytes, book)?;
+    let answer = answer_message(
+        rt, alloc, library, links, floor, number, s, pos, bytes, book,
+    )?;
     if let Answer::Filled = answer {
         place.count_fill();
+        if place.is_due() {
+            floor.wake_other(number);
+        }
     }
     Ok(answer)
 }
@@ -278,7 +300,10 @@ fn look_at<R: Wait>(
 {
     let place = floor.place(s);
     if place.keeper(s) != desk.number {
-        place.ask_if_due();
+        if place.is_due() {
+            place.ask_if_due();
+            floor.wake_other(desk.number);
+        }
         hand_over(library, links, floor, desk, s);
         return;
     }
@@ -286,6 +311,7 @@ fn look_at<R: Wait>(
         // Behind the last message that was answered.
         let next = place.book.lock(rt).next;
         request(library, links, s, next);
+        floor.bells().engine().ring();
     }
 }
 
@@ -303,13 +329,23 @@ fn hand_over(library: &mut Library, links: &Links, floor: &Floor, desk: &mut Des
     }
     let lease = desk.lease_of(s);
     if lease == 0 {
-        place.let_go();
+        let_go(floor, desk, s);
         return;
     }
     place.hand(lease);
     hand(library, links, s, heir);
     desk.set_lease(s, 0);
-    place.let_go();
+    let_go(floor, desk, s);
+    floor.bells().engine().ring();
+}
+
+/// The session was let go: the other library may request it, and is woken where it didn't know.
+fn let_go(floor: &Floor, desk: &Desk, s: u16) {
+    let place = floor.place(s);
+    if !place.is_free() {
+        place.let_go();
+        floor.wake_other(desk.number);
+    }
 }
 
 /// Gives every session back.
@@ -354,6 +390,7 @@ fn tell_done<R: rt::Clock>(
             return;
         }
         if say_done(library, links, finished) {
+            floor.bells().engine().ring();
             return;
         }
         thread::sleep(rt, Duration::from_micros(NAP));

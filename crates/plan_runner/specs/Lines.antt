@@ -1,5 +1,7 @@
 -- A line of a library's plan: the calls as which it is carried out, which answers it waits by, and how much of it is left.
 use Rattle.std.specs.Prelude.{◌≡◌, ℕ, ◌-◌, Bool, true, false, Option, Some, None, List, All, Result, Ok, Err}
+use Rattle.gate_io.specs.declared.gates.Lack.{Lack}
+use Rattle.gate_io.specs.declared.gates.Lack.TheVariants.{News, Room}
 use Rattle.library_api.specs.declared.event.Event.{Event}
 use Rattle.library_api.specs.declared.event.Event.TheVariants as events
 use Rattle.library_api.specs.declared.refusal.AskError.{AskError}
@@ -45,6 +47,17 @@ call_of act.Beat = act.Beat
 call_of (act.Hand s heir) = act.Hand s heir
 call_of act.Answer = act.Poll
 call_of (act.Read count) = act.Poll
+
+-- what a library lacks whose call of a line was in vain: a poll takes up news, and any other call wants room
+abbrev pub lack_of : LibStep → Lack
+lack_of (act.Request s from) = Room
+lack_of act.Poll = Room
+lack_of (act.Send s body) = Room
+lack_of (act.Release s) = Room
+lack_of act.Beat = Room
+lack_of (act.Hand s heir) = Room
+lack_of act.Answer = News
+lack_of (act.Read count) = News
 
 -- a poll that found nothing to take up
 abbrev pub is_idle : Event → Bool

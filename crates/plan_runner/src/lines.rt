@@ -1,9 +1,10 @@
 //! What a line of a plan is.
 
 ghost use Rattle.std.specs.Prelude.{◌≡◌};
-ghost use Rattle.plan_runner.specs.Lines.{IsLineOf, call_of, is_idle_poll, has_no_room, is_vain, left_after, left_first, left_to_read};
+ghost use Rattle.plan_runner.specs.Lines.{IsLineOf, call_of, is_idle_poll, has_no_room, is_vain, lack_of, left_after, left_first, left_to_read};
 ghost use Rattle.script_text.specs.declared.steps.Step.TheVariants as step;
 
+use gate_io::Lack;
 use library_api::{AskError, Event, SendRefusal};
 use run_report::Call;
 use script_text::{LibStep, Step};
@@ -26,6 +27,16 @@ pub(crate) fn is_vain(line: &LibStep, call: &Call) -> bool
     match line {
         LibStep::Answer | LibStep::Read { .. } => is_idle_poll(call),
         _ => has_no_room(call),
+    }
+}
+
+/// What a library lacks whose call of this line was in vain.
+pub(crate) fn lack_of(line: &LibStep) -> Lack
+    ensures { result ≡ lack_of line.now }
+{
+    match line {
+        LibStep::Answer | LibStep::Read { .. } => Lack::News,
+        _ => Lack::Room,
     }
 }
 

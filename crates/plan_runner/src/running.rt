@@ -22,8 +22,8 @@ use std::alloc::Global;
 ///
 /// A send that finds its lane full, a request that finds the ring full, and a poll of `answer` or `read` that finds
 /// nothing to take up are made again and not reported. Each of these answers, and each time that the gate doesn't let
-/// the library pass, is a waiting turn; a reported call sets their number to 0. At a line that had `turns` waiting
-/// turns the plan is given up. At the end the engine is told whether the plan was carried out whole, again while the
+/// the library pass, is a waiting turn; a reported call sets their number to 0. Behind a call the gate is told whether
+/// it was reported: if not, the library may wait there. At a line that had `turns` waiting turns the plan is given up. At the end the engine is told whether the plan was carried out whole, again while the
 /// ring of commands has no room, by at most `turns` calls, of which the gate isn't asked. `waited` is how long the
 /// library had waited before that.
 ///
@@ -68,13 +68,19 @@ pub fn run_plan<G: Gate>(
     };
     let outcome = work.carry_all(alloc, library, links, gate, plan);
     match outcome {
-        Ok(finished) => Ok(end(work, library, links, finished)),
-        Err(why) => Err((why, end(work, library, links, false))),
+        Ok(finished) => Ok(end(work, library, links, gate, finished)),
+        Err(why) => Err((why, end(work, library, links, gate, false))),
     }
 }
 
 // Ends a plan: tells the engine, and reports what was done.
-fn end(work: Work, library: &mut Library, links: &Links, finished: bool) -> LibReport
+fn end<G: Gate>(
+    work: Work,
+    library: &mut Library,
+    links: &Links,
+    gate: &G,
+    finished: bool,
+) -> LibReport
     requires tail { library.old.ends.tail.ring ≡ links.now.commands.now }
     requires some { 1 ≤ work.turns }
     ensures report { result ≡ report_of work.number finished (stage_of library.old work) }
@@ -83,7 +89,7 @@ fn end(work: Work, library: &mut Library, links: &Links, finished: bool) -> LibR
     ensures belongings { belongings library.new.ends ≡ belongings library.old.ends }
 {
     let waited = library.waited();
-    tell_done(library, links, finished, work.turns);
+    tell_done(library, links, work.number, finished, gate, work.turns);
     LibReport {
         number: work.number,
         reads: reads_of(work.calls.as_slice()),

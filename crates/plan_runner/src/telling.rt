@@ -6,11 +6,19 @@ ghost use Rattle.library_api.specs.Waits.{waits_after};
 ghost use Rattle.library_api.specs.declared.waited.WaitKind.TheVariants.{Done};
 ghost use Rattle.plan_runner.specs.Ends.{EndsTold, FindsFull, HasTold, Tells, TellsDone};
 
+use gate_io::{Gate, Lack};
 use library_api::{Library, Links};
 
 /// Tells the engine that the library does nothing more, and whether it carried out its whole plan. Where the ring has
 /// no room it is told again, at most so many times in all.
-pub(crate) fn tell_done(library: &mut Library, links: &Links, finished: bool, turns: u64)
+pub(crate) fn tell_done<G: Gate>(
+    library: &mut Library,
+    links: &Links,
+    number: u8,
+    finished: bool,
+    gate: &G,
+    turns: u64,
+)
     requires tail { library.old.ends.tail.ring ≡ links.now.commands.now }
     requires some { 1 ≤ turns }
     ensures tells { TellsDone finished turns library.old library.new }
@@ -19,8 +27,10 @@ pub(crate) fn tell_done(library: &mut Library, links: &Links, finished: bool, tu
 {
     'telling: for _fulls in 0..turns {
         if tell(library, links, finished) {
+            gate.acted(u32::from(number));
             return;
         }
+        gate.wait(u32::from(number), Lack::Room);
     }
 }
 

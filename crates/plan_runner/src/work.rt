@@ -8,7 +8,7 @@ ghost use Rattle.plan_runner.specs.Plans.{CarriesPlan, PlanStands, PlanStandsFew
 ghost use Rattle.plan_runner.specs.Stages.{stage_of};
 ghost use Rattle.plan_runner.specs.Turns.{Advances, CallsInVain, CarriesLine, Reports, StandsFew, StandsFor, WaitsFew, WaitsFor, WaitsOnce};
 
-use crate::lines::{act_of, is_vain, left_after, left_first};
+use crate::lines::{act_of, is_vain, lack_of, left_after, left_first};
 use gate_io::{Gate, NoMemory};
 use library_api::{Library, Links};
 use library_calls::make_call;
@@ -88,7 +88,19 @@ impl Work {
         if !self.pass(gate) {
             return Ok(false);
         }
-        self.call(alloc, library, links, line)
+        let told = self.call(alloc, library, links, line)?;
+        self.rest(gate, line, told);
+        Ok(told)
+    }
+
+    /// Tells the gate whether the call of a line was in vain: there the library may wait before it makes it again.
+    fn rest<G: Gate>(&self, gate: &G, line: &LibStep, told: bool) {
+        let lib = u32::from(self.number);
+        if told {
+            gate.acted(lib);
+        } else {
+            gate.wait(lib, lack_of(line));
+        }
     }
 
     /// Takes turns until a call is reported. Answers whether one was: else as many were waiting ones as give a plan up.

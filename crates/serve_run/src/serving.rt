@@ -75,6 +75,7 @@ pub fn serve_script<R: Threads + Sync, W: Dial + Send, C: Clock + Send, G: Gate 
     let connections = config.connections as usize + config.dials as usize;
     let libraries = usize::from(config.libraries);
     let asks = config.asks;
+    let silence = config.timeout;
     let room = match LibraryRoom::new(alloc, libraries) {
         Ok(room) => room,
         Err(why) => return Err((why, RunRecord::none(alloc))),
@@ -93,6 +94,7 @@ pub fn serve_script<R: Threads + Sync, W: Dial + Send, C: Clock + Send, G: Gate 
         }
     };
     let mut awaited = Awaited::new(connections, libraries);
+    gate.begin(silence);
     let ended = run_all(
         rt,
         alloc,

@@ -55,7 +55,7 @@ pub(crate) fn run_all<R: Threads + Sync, W: Dial + Send, C: Clock + Send, G: Gat
                 × IsEngine shared.entry.now engine.exit.now (W.door wire.exit.now) (W.link wire.exit.now)
                 × OnOk result (engine.exit.now.failed ≡ false)
                 × OnErr result (DrivesInPart awaited.entry.now.connections awaited.entry.now.libraries turns (at_wire engine.entry.now (W.door wire.entry.now) (W.link wire.entry.now)) engine.exit.now) }
-        { drive(alloc, shared, turns, awaited, engine, wire, clock) },
+        { drive(alloc, shared, turns, awaited, engine, wire, clock, gate) },
         &mut ||
             requires { IsSync R.row × IsSync G.row × (1 ≤ turns) × All (IsReady shared.now) workers.now.items }
             ensures { AllWork (G.open_wide gate.entry.now) turns workers.entry.now.items workers.exit.now.items × AreWorkers shared.entry.now workers.exit.now.items }

@@ -1,16 +1,17 @@
 //! The checks, each by its name.
 
-use crate::{handed_over, plans, side_by_side, statuses};
+use crate::{handed_over, parked, plans, side_by_side, statuses};
 use anyhow::{Result, bail};
 use row_text::Checks;
 use std::alloc::Global;
 use std::rt;
 use std::rt::Runtime;
+use std::sync::Wait;
 use std::thread::Threads;
 
 /// Makes them all, and prints a line for each. Fails where one fails.
 pub(crate) fn tell_all(
-    rt: &(impl Runtime + rt::Clock + Threads + Copy + Send + Sync),
+    rt: &(impl Runtime + rt::Clock + Threads + Wait + Copy + Send + Sync),
     alloc: Global,
 ) -> Result<()> {
     let mut checks = Checks::new();
@@ -50,7 +51,7 @@ fn tell_statuses(
 
 /// The engine and libraries in threads of their own.
 fn tell_threads(
-    rt: &(impl Runtime + rt::Clock + Threads + Copy + Send + Sync),
+    rt: &(impl Runtime + rt::Clock + Threads + Wait + Copy + Send + Sync),
     alloc: Global,
     checks: &mut Checks,
 ) -> Result<()> {
@@ -63,7 +64,11 @@ fn tell_threads(
     let given_up = side_by_side::a_plan_is_given_up(rt, alloc);
     checks.tell(rt, "a_plan_is_given_up", given_up)?;
     let heir = handed_over::the_heir_goes_on_where_the_first_stopped(rt, alloc);
-    checks.tell(rt, "the_heir_goes_on_where_the_first_stopped", heir)
+    checks.tell(rt, "the_heir_goes_on_where_the_first_stopped", heir)?;
+    let in_time = parked::a_library_that_waits_beats_in_time(rt, alloc);
+    checks.tell(rt, "a_library_that_waits_beats_in_time", in_time)?;
+    let asleep = parked::a_library_that_oversleeps_loses_its_session(rt, alloc);
+    checks.tell(rt, "a_library_that_oversleeps_loses_its_session", asleep)
 }
 
 /// A library's plan, beside an engine that does nothing.

@@ -10,6 +10,9 @@ use gate_io::{Accepted, Dial, Dialled, Listened, MemWire, Wire, WireGot, WireWro
 use std::time::Duration;
 use std::{rt, thread};
 
+/// For how many milliseconds it waits at most where it is told to pause.
+const NAP: u32 = 1;
+
 /// The text that it waits for.
 const GO: &[u8] = b"37=GO";
 
@@ -110,7 +113,7 @@ impl<'a, R: rt::Clock> Wire for HeldWire<'a, R> {
     }
 
     fn pause(&mut self, ms: u32) {
-        thread::sleep(&self.rt, Duration::from_millis(u64::from(ms)));
+        thread::sleep(&self.rt, Duration::from_millis(u64::from(ms.min(NAP))));
         self.wire.pause(ms);
     }
 }

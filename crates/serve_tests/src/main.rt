@@ -16,12 +16,12 @@
 //! Stands on `gateway_run` (what serves a script) and `plan_runner` (plans), which are tried, `journal_audit` (the
 //! audit), `run_report` (calls with their answers), `script_text` (steps and kinds of faults), `library_api`,
 //! `lease_words` and `ring_links` (a library and its ends), `lease_core` (commands), `session_core` (causes),
-//! `fix_frame` (frames), `gate_io` (wires, clocks, gates), `row_text` (checks), `draws` (numbers that look random)
-//! and `anyhow` (errors). Told in docs/tests.md.
+//! `fix_frame` (frames), `thread_bells` (bells by which threads wake each other), `gate_io` (wires, clocks, gates),
+//! `row_text` (checks), `draws` (numbers that look random) and `anyhow` (errors). Told in docs/tests.md.
 //!
 //! Read `frames`, `served` (runs of a script) and `audited`; then the checks: `watched`, `gates` and `held_wire`
-//! (what holds runs back), `side_by_side`, `handed_over`, `statuses`, `plans` and `checks`; then runs at random:
-//! `scripts`, `traffic`, `drowsy` (libraries fall silent), `running` and `made`; last `faulty` (a wire that fails)
+//! (what holds runs back), `side_by_side`, `handed_over`, `parked` (libraries that sleep), `statuses`, `plans` and
+//! `checks`; then runs at random: `scripts`, `traffic`, `drowsy` (libraries fall silent), `running` and `made`; last `faulty` (a wire that fails)
 //! and `faults`.
 #![tactic(auto)]
 
@@ -35,6 +35,7 @@ mod gates;
 mod handed_over;
 mod held_wire;
 mod made;
+mod parked;
 mod plans;
 mod running;
 mod scripts;

@@ -14,6 +14,8 @@ use gate_io::{
 use std::alloc::Global;
 use std::marker::Model;
 use std::net::Net;
+use std::rt;
+use thread_bells::Bell;
 
 /// The connections of a run over TCP. Nothing is told of their bytes. No call but a pause and `finish` waits for a
 /// counterparty, though a host name is looked up by the system, which may take its time.
@@ -21,8 +23,8 @@ use std::net::Net;
 /// The poll and the lists for all connections are made at the first `listen`, and before it nothing is accepted and
 /// each dial fails. A connection that isn't known to be ready answers `Blocked` with no call at its socket.
 #[derive(Drop)]
-pub struct NetWire<R: Net> {
-    sockets: Sockets<R>,
+pub struct NetWire<'a, R: Net + rt::Clock> {
+    sockets: Sockets<'a, R>,
     accepted: Vec<LinkCounts>,
     dialled: Vec<LinkCounts>,
     listen_faults: u64,
@@ -31,7 +33,7 @@ pub struct NetWire<R: Net> {
     idle_accepts: u64,
 }
 
-impl<R: Net> Model for NetWire<R> {
+impl<'a, R: Net + rt::Clock> Model for NetWire<'a, R> {
     ghost use Rattle.wire_edge.specs.NetWire.{NetState};
 
     ghost Value = { NetState };
@@ -39,13 +41,14 @@ impl<R: Net> Model for NetWire<R> {
     ghost view = { λ w. record { accepted = w.accepted.items; dialled = w.dialled.items; listen_faults = w.listen_faults; accept_faults = w.accept_faults; dial_faults = w.dial_faults; idle_accepts = w.idle_accepts } };
 }
 
-impl<R: Net> NetWire<R> {
-    /// A wire that doesn't listen yet.
-    pub fn new(net: R, alloc: Global) -> NetWire<R>
+impl<'a, R: Net + rt::Clock> NetWire<'a, R> {
+    /// A wire that doesn't listen yet. A pause of it may sleep beside the bell, so whoever has something to do for the
+    /// thread that pauses rings that.
+    pub fn new(net: R, alloc: Global, bell: &'a Bell) -> NetWire<'a, R>
         ensures { result ≡ new_wire }
     {
         NetWire {
-            sockets: Sockets::new(net, alloc),
+            sockets: Sockets::new(net, alloc, bell),
             accepted: Vec::new(alloc),
             dialled: Vec::new(alloc),
             listen_faults: 0,
@@ -73,7 +76,7 @@ impl<R: Net> NetWire<R> {
     }
 }
 
-impl<R: Net + Drop> NetWire<R> {
+impl<'a, R: Net + rt::Clock + Drop> NetWire<'a, R> {
     /// Ends the run: shuts the writing side of each connection down, and reads and drops what still comes until each
     /// counterparty has ended too. It waits for that at most `END_ROUNDS` times `END_WAIT` milliseconds, and drains
     /// each connection with at most `DRAIN_READS` reads with bytes. So bytes that were written last aren't lost to a
@@ -90,7 +93,7 @@ fn is_of_dial(c: u32) -> bool
     FIRST_DIALLED <= c
 }
 
-impl<R: Net> Wire for NetWire<R> {
+impl<'a, R: Net + rt::Clock> Wire for NetWire<'a, R> {
     ghost link = { link_at };
 
     ghost door = { door_of };
@@ -172,7 +175,7 @@ impl<R: Net> Wire for NetWire<R> {
     }
 }
 
-impl<R: Net> Dial for NetWire<R> {
+impl<'a, R: Net + rt::Clock> Dial for NetWire<'a, R> {
     ghost dial_gives = { λ before _ answer after. after ≡ wire_after_dial before answer };
 
     fn dial(&mut self, address: &str) -> Dialled {

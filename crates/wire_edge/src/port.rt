@@ -22,6 +22,8 @@ pub struct Port {
     stream: Option<TcpStream>,
     readable: bool,
     writable: bool,
+    /// The system reported the end of the input, or an error: it says nothing more of it, so reads go on up to that.
+    ended: bool,
     /// The writing side is shut down, and what still comes is dropped.
     closing: bool,
     /// How many more reads with bytes it may be drained with.
@@ -37,6 +39,7 @@ impl Port {
             stream: None,
             readable: false,
             writable: false,
+            ended: false,
             closing: false,
             drains: DRAIN_READS,
             round: 0,
@@ -49,6 +52,7 @@ impl Port {
             stream: Some(stream),
             readable: ready,
             writable: ready,
+            ended: false,
             closing: false,
             drains: DRAIN_READS,
             round: 0,
@@ -75,6 +79,9 @@ impl Port {
         if event.is_readable() || event.is_read_closed() || event.is_error() {
             self.readable = true;
         }
+        if event.is_read_closed() || event.is_error() {
+            self.ended = true;
+        }
         if event.is_writable() || event.is_write_closed() || event.is_error() {
             self.writable = true;
         }
@@ -83,7 +90,8 @@ impl Port {
         }
     }
 
-    /// Reads, if the connection is known to be ready.
+    /// Reads, if the connection is known to be ready. A read that gives less than there is room for has given all, and what
+    /// comes behind it the system reports anew.
     pub fn read(&mut self, buf: &mut [u8]) -> WireGot
         ensures { WireGotWithin (length buf.old) result }
     {
@@ -95,7 +103,10 @@ impl Port {
         };
         match stream.read(buf) {
             Ok(0) => WireGot::End,
-            Ok(n) => WireGot::Bytes(n),
+            Ok(n) => {
+                self.readable = self.ended || n == buf.len();
+                WireGot::Bytes(n)
+            }
             Err(error) if is_blocked(&error) => {
                 self.readable = false;
                 WireGot::Blocked

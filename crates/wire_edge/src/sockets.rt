@@ -3,36 +3,42 @@
 ghost use Rattle.std.specs.Prelude.{length};
 ghost use Rattle.gate_io.specs.Wire.{WireGotWithin, WireWroteWithin};
 
-use crate::pace::Pace;
 use crate::watch::{Came, Watch};
 use gate_io::{Listened, WireGot, WireWrote};
 use std::alloc::Global;
-use std::io;
 use std::io::ErrorKind;
 use std::net::Net;
+use std::{io, rt};
+use thread_bells::{Bell, Pace, micros};
 
 /// The sockets of a run, from its listen on, and when the system is asked which of them are ready: at a pause, at an
 /// accept where no pause came since the accept or read before, where a connection is read a second time since it was
-/// asked, and as the run ends.
+/// asked, and as the run ends. A pause may sleep, beside a bell.
 #[derive(Drop)]
-pub struct Sockets<R: Net> {
+pub struct Sockets<'a, R: Net + rt::Clock> {
     net: R,
     alloc: Global,
+    bell: &'a Bell,
     watch: Option<Watch>,
     pace: Pace,
+    /// A connection ended, failed or was closed, or a sleep ended, and no byte has moved and no connection come since:
+    /// what follows from that may still be to be done, so the next pause only asks.
+    stirred: bool,
     /// How often the system was asked before the run's end, and once more: the round of reads.
     round: u64,
     /// A pause came, and no accept or read since: the next accept needn't ask again.
     paused: bool,
 }
 
-impl<R: Net> Sockets<R> {
-    pub fn new(net: R, alloc: Global) -> Sockets<R> {
+impl<'a, R: Net + rt::Clock> Sockets<'a, R> {
+    pub fn new(net: R, alloc: Global, bell: &'a Bell) -> Sockets<'a, R> {
         Sockets {
             net,
             alloc,
+            bell,
             watch: None,
             pace: Pace::new(),
+            stirred: true,
             round: 1,
             paused: false,
         }
@@ -48,7 +54,7 @@ impl<R: Net> Sockets<R> {
 
     fn begin(&mut self, address: &str) -> io::Result<()> {
         if self.watch.is_none() {
-            self.watch = Some(Watch::new(&self.net, self.alloc)?);
+            self.watch = Some(Watch::new(&self.net, self.alloc, self.bell)?);
         }
         match &mut self.watch {
             Some(watch) => watch.listen(&self.net, address),
@@ -71,7 +77,7 @@ impl<R: Net> Sockets<R> {
         };
         let came = watch.accept(c);
         if came == Came::New {
-            self.pace.moved();
+            self.go_on();
         }
         came
     }
@@ -97,8 +103,10 @@ impl<R: Net> Sockets<R> {
         };
         port.enter(round);
         let got = port.read(buf);
-        if let WireGot::Bytes(_) = got {
-            self.pace.moved();
+        match got {
+            WireGot::Bytes(_) => self.go_on(),
+            WireGot::End | WireGot::Failed => self.stir(),
+            WireGot::Blocked => {}
         }
         got
     }
@@ -119,8 +127,10 @@ impl<R: Net> Sockets<R> {
             return WireWrote::Failed;
         };
         let wrote = port.write(piece);
-        if let WireWrote::Bytes(_) = wrote {
-            self.pace.moved();
+        match wrote {
+            WireWrote::Bytes(_) => self.go_on(),
+            WireWrote::Failed => self.stir(),
+            WireWrote::Blocked => {}
         }
         wrote
     }
@@ -129,12 +139,64 @@ impl<R: Net> Sockets<R> {
         if let Some(port) = self.watch.as_mut().and_then(|watch| watch.at(c)) {
             port.close();
         }
+        self.stir();
     }
 
+    /// Bytes moved, or a connection came. Whoever makes turns makes another one behind that, before the next pause.
+    fn go_on(&mut self) {
+        self.stirred = false;
+        self.find();
+    }
+
+    /// A connection ended, failed or was closed.
+    fn stir(&mut self) {
+        self.stirred = true;
+        self.find();
+    }
+
+    /// Something was found.
+    fn find(&mut self) {
+        if !self.pace.is_idle() {
+            return;
+        }
+        match micros(&self.net) {
+            Some(now) => self.pace.found(now),
+            None => self.pace = Pace::new(),
+        }
+    }
+
+    /// Asks the system which sockets are ready, and sleeps until one is, somebody rings, or so many milliseconds have
+    /// passed: where nothing happened lately, and asking again at once isn't worth it.
     pub fn pause(&mut self, ms: u32) {
-        let wait = self.pace.wait(ms);
-        self.look(wait as u64);
+        if ms == 0 || self.asks_again() {
+            self.look(0);
+        } else {
+            self.sleep(u64::from(ms));
+        }
         self.paused = true;
+    }
+
+    /// Whether the system is to be asked again at once.
+    fn asks_again(&mut self) -> bool {
+        if self.stirred {
+            self.stirred = false;
+            return true;
+        }
+        match micros(&self.net) {
+            Some(now) => self.pace.found_nothing(now),
+            None => false,
+        }
+    }
+
+    /// Sleeps beside the bell, unless it was rung.
+    fn sleep(&mut self, ms: u64) {
+        self.stirred = true;
+        if self.bell.lie_down() {
+            self.look(ms);
+            self.bell.get_up();
+        } else {
+            self.look(0);
+        }
     }
 
     /// Asks the system which sockets are ready. A round of reads begins.

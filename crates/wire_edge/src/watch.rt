@@ -3,12 +3,13 @@
 use crate::port::Port;
 use gate_io::{FIRST_DIALLED, MOST_DIALLED};
 use mio::net::{TcpListener, TcpStream};
-use mio::{Events, Interest, Poll, Token};
+use mio::{Events, Interest, Poll, Token, Waker};
 use std::alloc::Global;
 use std::io;
 use std::io::ErrorKind;
 use std::net::{Net, ToSocketAddrs};
 use std::time::Duration;
+use thread_bells::Bell;
 
 /// The places of all connections of a run: those that are accepted, and behind them those that are
 /// dialled. A connection's number is its place.
@@ -22,6 +23,9 @@ pub const END_WAIT: u64 = 20;
 
 /// Names the listener in what the system reports. Connections are named by their numbers.
 const DOOR: Token = Token(usize::MAX);
+
+/// Names the bell there.
+const BELL: Token = Token(usize::MAX - 1);
 
 /// What came of asking for a connection.
 #[derive(Clone, Copy, PartialEq, Eq)]
@@ -44,15 +48,20 @@ pub struct Watch {
 }
 
 impl Watch {
-    pub fn new(net: &impl Net, alloc: Global) -> io::Result<Watch> {
+    /// No socket, in a poll that is woken by this bell. A bell can wake one poll alone.
+    pub fn new(net: &impl Net, alloc: Global, bell: &Bell) -> io::Result<Watch> {
         let places = PLACES as usize;
-        let events = Events::with_capacity(alloc, places + 1)?;
+        let events = Events::with_capacity(alloc, places + 2)?;
         let mut ports = Vec::with_capacity(alloc, places)?;
         for _ in 0..places {
             ports.push(Port::vacant())?;
         }
+        let poll = Poll::new(net)?;
+        if !bell.wake_by(Waker::new(poll.registry(), BELL)?) {
+            return Err(io::Error::from(ErrorKind::AlreadyExists));
+        }
         Ok(Watch {
-            poll: Poll::new(net)?,
+            poll,
             events,
             listener: None,
             door_ready: false,

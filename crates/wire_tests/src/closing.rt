@@ -4,11 +4,14 @@ use crate::checks::same;
 use crate::sides::{address_of, listening, settle};
 use gate_io::{Accepted, Dial, Dialled, Wire, WireGot, WireWrote};
 use std::test::Fail;
+use thread_bells::Bell;
 
 #[test]
 fn the_input_ends_behind_its_bytes(rt: HostRuntime) -> Result<(), Fail> {
-    let mut gateway = listening(rt)?;
-    let mut client = listening(rt)?;
+    let gateway_bell = Bell::new();
+    let mut gateway = listening(rt, &gateway_bell)?;
+    let client_bell = Bell::new();
+    let mut client = listening(rt, &client_bell)?;
     let address = address_of(rt, &gateway)?;
     let mut buf = [0u8; 8];
     same(&rt, &client.dial(address.as_str()), &Dialled::New(1024));
@@ -31,8 +34,10 @@ fn the_input_ends_behind_its_bytes(rt: HostRuntime) -> Result<(), Fail> {
 
 #[test]
 fn last_bytes_come_through_though_input_was_left(rt: HostRuntime) -> Result<(), Fail> {
-    let mut gateway = listening(rt)?;
-    let mut client = listening(rt)?;
+    let gateway_bell = Bell::new();
+    let mut gateway = listening(rt, &gateway_bell)?;
+    let client_bell = Bell::new();
+    let mut client = listening(rt, &client_bell)?;
     let address = address_of(rt, &gateway)?;
     let mut buf = [0u8; 8];
     same(&rt, &client.dial(address.as_str()), &Dialled::New(1024));
@@ -58,8 +63,10 @@ fn last_bytes_come_through_though_input_was_left(rt: HostRuntime) -> Result<(), 
 
 #[test]
 fn a_run_ends_though_a_counterparty_stays(rt: HostRuntime) -> Result<(), Fail> {
-    let mut gateway = listening(rt)?;
-    let mut client = listening(rt)?;
+    let gateway_bell = Bell::new();
+    let mut gateway = listening(rt, &gateway_bell)?;
+    let client_bell = Bell::new();
+    let mut client = listening(rt, &client_bell)?;
     let address = address_of(rt, &gateway)?;
     let mut buf = [0u8; 8];
     same(&rt, &client.dial(address.as_str()), &Dialled::New(1024));

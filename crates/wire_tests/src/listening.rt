@@ -4,11 +4,13 @@ use crate::checks::{same, same_at};
 use crate::sides::{address_of, listening, settle};
 use gate_io::{Accepted, Dial, Dialled, Listened, Wire, WireGot};
 use std::test::Fail;
+use thread_bells::Bell;
 use wire_edge::NetWire;
 
 #[test]
 fn nothing_before_the_listen(rt: HostRuntime) {
-    let mut wire = NetWire::new(rt, rt.alloc());
+    let wire_bell = Bell::new();
+    let mut wire = NetWire::new(rt, rt.alloc(), &wire_bell);
     same(&rt, &wire.port(), &None);
     same(&rt, &wire.accept(), &Accepted::Nothing);
     same(&rt, &wire.dial("127.0.0.1:1"), &Dialled::Failed);
@@ -18,7 +20,8 @@ fn nothing_before_the_listen(rt: HostRuntime) {
 
 #[test]
 fn addresses_at_which_nothing_listens(rt: HostRuntime) -> Result<(), Fail> {
-    let mut wire = NetWire::new(rt, rt.alloc());
+    let wire_bell = Bell::new();
+    let mut wire = NetWire::new(rt, rt.alloc(), &wire_bell);
     for address in ["", "127.0.0.1", "127.0.0.1:", "127.0.0.1:65536", ":"] {
         same_at(&rt, &wire.listen(address), &Listened::Failed, &address);
     }
@@ -27,9 +30,11 @@ fn addresses_at_which_nothing_listens(rt: HostRuntime) -> Result<(), Fail> {
 
 #[test]
 fn a_port_is_taken_by_the_first_that_listens(rt: HostRuntime) -> Result<(), Fail> {
-    let first = listening(rt)?;
+    let first_bell = Bell::new();
+    let first = listening(rt, &first_bell)?;
     let address = address_of(rt, &first)?;
-    let mut wire = NetWire::new(rt, rt.alloc());
+    let wire_bell = Bell::new();
+    let mut wire = NetWire::new(rt, rt.alloc(), &wire_bell);
     same(&rt, &wire.listen(address.as_str()), &Listened::Failed);
     same(&rt, &wire.listen("127.0.0.1:0"), &Listened::Ready);
     same(&rt, &wire.accept(), &Accepted::Nothing);
@@ -38,7 +43,8 @@ fn a_port_is_taken_by_the_first_that_listens(rt: HostRuntime) -> Result<(), Fail
 
 #[test]
 fn addresses_that_cannot_be_dialled(rt: HostRuntime) -> Result<(), Fail> {
-    let mut wire = listening(rt)?;
+    let wire_bell = Bell::new();
+    let mut wire = listening(rt, &wire_bell)?;
     for address in ["", "127.0.0.1", "127.0.0.1:", "127.0.0.1:65536", ":"] {
         same_at(&rt, &wire.dial(address), &Dialled::Failed, &address);
     }
@@ -47,10 +53,12 @@ fn addresses_that_cannot_be_dialled(rt: HostRuntime) -> Result<(), Fail> {
 
 #[test]
 fn a_refused_dial_is_a_failed_read(rt: HostRuntime) -> Result<(), Fail> {
-    let gone = listening(rt)?;
+    let gone_bell = Bell::new();
+    let gone = listening(rt, &gone_bell)?;
     let address = address_of(rt, &gone)?;
     gone.finish();
-    let mut wire = listening(rt)?;
+    let wire_bell = Bell::new();
+    let mut wire = listening(rt, &wire_bell)?;
     let mut buf = [0u8; 8];
     same(&rt, &wire.dial(address.as_str()), &Dialled::New(1024));
     settle(&mut wire);

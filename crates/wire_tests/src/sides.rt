@@ -5,19 +5,20 @@ ghost use Rattle.wire_edge.specs.NetWire.{new_wire};
 
 use gate_io::{Listened, Wire};
 use std::test::Fail;
-use wire_edge::{NetWire, SPIN_PAUSES};
+use thread_bells::Bell;
+use wire_edge::NetWire;
 
-/// Pauses behind those that don't wait.
-const WAITS: u32 = 20;
+/// How many pauses there are until nothing more is to come. Those that sleep alternate with those that only ask.
+const PAUSES: u32 = 50;
 
-/// The milliseconds of such a pause.
+/// For how many milliseconds a pause sleeps at most.
 const WAIT: u32 = 5;
 
 /// A wire that listens at a port that the system chose.
-pub fn listening(rt: HostRuntime) -> Result<NetWire<HostRuntime>, Fail>
+pub fn listening<'a>(rt: HostRuntime, bell: &'a Bell) -> Result<NetWire<'a, HostRuntime>, Fail>
     ensures { IfOk result (λ wire. wire ≡ new_wire) }
 {
-    let mut wire = NetWire::new(rt, rt.alloc());
+    let mut wire = NetWire::new(rt, rt.alloc(), bell);
     match wire.listen("127.0.0.1:0") {
         Listened::Ready => Ok(wire),
         _ => Err(Fail::new("no port to listen at")),
@@ -25,7 +26,7 @@ pub fn listening(rt: HostRuntime) -> Result<NetWire<HostRuntime>, Fail>
 }
 
 /// The address at which a wire listens.
-pub fn address_of(rt: HostRuntime, wire: &NetWire<HostRuntime>) -> Result<String, Fail> {
+pub fn address_of(rt: HostRuntime, wire: &NetWire<'_, HostRuntime>) -> Result<String, Fail> {
     match wire.port() {
         Some(port) => Ok(format!(in rt.alloc(); "127.0.0.1:{port}")?),
         None => Err(Fail::new("no port")),
@@ -33,10 +34,10 @@ pub fn address_of(rt: HostRuntime, wire: &NetWire<HostRuntime>) -> Result<String
 }
 
 /// Pauses until nothing more is to come.
-pub fn settle(wire: &mut NetWire<HostRuntime>)
+pub fn settle(wire: &mut NetWire<'_, HostRuntime>)
     ensures { wire.new ≡ wire.old }
 {
-    for _round in 0..SPIN_PAUSES + WAITS {
+    for _round in 0..PAUSES {
         wire.pause(WAIT);
     }
 }

@@ -4,10 +4,12 @@ use crate::checks::same;
 use crate::sides::{address_of, listening, settle};
 use gate_io::{Accepted, Dial, Dialled, Wire, WireGot, WireWrote};
 use std::test::Fail;
+use thread_bells::Bell;
 
 #[test]
 fn a_wire_dials_its_own_listener(rt: HostRuntime) -> Result<(), Fail> {
-    let mut wire = listening(rt)?;
+    let wire_bell = Bell::new();
+    let mut wire = listening(rt, &wire_bell)?;
     let address = address_of(rt, &wire)?;
     let mut buf = [0u8; 8];
     same(&rt, &wire.accept(), &Accepted::Nothing);
@@ -30,7 +32,8 @@ fn a_wire_dials_its_own_listener(rt: HostRuntime) -> Result<(), Fail> {
 
 #[test]
 fn a_read_takes_what_fits_and_leaves_the_rest(rt: HostRuntime) -> Result<(), Fail> {
-    let mut wire = listening(rt)?;
+    let wire_bell = Bell::new();
+    let mut wire = listening(rt, &wire_bell)?;
     let address = address_of(rt, &wire)?;
     let mut buf = [0u8; 4];
     same(&rt, &wire.dial(address.as_str()), &Dialled::New(1024));
@@ -48,8 +51,10 @@ fn a_read_takes_what_fits_and_leaves_the_rest(rt: HostRuntime) -> Result<(), Fai
 
 #[test]
 fn connections_are_numbered_as_they_come(rt: HostRuntime) -> Result<(), Fail> {
-    let mut gateway = listening(rt)?;
-    let mut clients = listening(rt)?;
+    let gateway_bell = Bell::new();
+    let mut gateway = listening(rt, &gateway_bell)?;
+    let clients_bell = Bell::new();
+    let mut clients = listening(rt, &clients_bell)?;
     let address = address_of(rt, &gateway)?;
     let mut buf = [0u8; 8];
     same(&rt, &clients.dial(address.as_str()), &Dialled::New(1024));
@@ -67,7 +72,8 @@ fn connections_are_numbered_as_they_come(rt: HostRuntime) -> Result<(), Fail> {
 
 #[test]
 fn a_descriptor_that_is_given_again_is_a_new_connection(rt: HostRuntime) -> Result<(), Fail> {
-    let mut wire = listening(rt)?;
+    let wire_bell = Bell::new();
+    let mut wire = listening(rt, &wire_bell)?;
     let address = address_of(rt, &wire)?;
     let mut buf = [0u8; 8];
     same(&rt, &wire.dial(address.as_str()), &Dialled::New(1024));

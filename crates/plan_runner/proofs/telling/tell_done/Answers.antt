@@ -5,7 +5,7 @@ use Rattle.plan_runner.proofs.Waiting.{counts}
 use Rattle.plan_runner.proofs.telling.tell_done.Goals as goal
 
 pub telling-preserved : goal.telling-preserved
-telling-preserved c =
+telling-preserved g c =
     let was = c.telling.invariant in
     let now = c.tell.ensures in
     let waits = now.waits c.if-tell.false in

@@ -1,4 +1,5 @@
 use Rattle.std.proofs.Common.{◌≡◌, refl, sym, ap, subst, ◌∙◌, true, false}
+use Rattle.engine_loop.specs.Due.{IsQuietFor}
 use Rattle.engine_loop.specs.Turns.{at_wire}
 use Rattle.engine_loop.proofs.Waited.{knows_same}
 use Rattle.engine_loop.proofs.engine.Engine.turn_and_pause.Goals as goal
@@ -24,7 +25,13 @@ returns-clause-makes g c = elim c.if-is_idle.branch [
 
 pub returns-clause-pauses : goal.returns-clause-pauses
 returns-clause-pauses g c = elim c.if-is_idle.branch [
-  | then-is_idle w ↦ λ _. (c.turn.new.wire, c.in_ok-turn.ensures.turns, subst (λ wire. g.W.Wire.pause_gives c.turn.new.wire 1 wire) (sym w.wire-is) w.pause.ensures.exact)
+  | then-is_idle w ↦ λ _.
+      let for_so_long : IsQuietFor c.turn.new.self w.quiet_for.result = record {
+        most = w.quiet_for.ensures.most;
+        quiet = w.quiet_for.ensures.quiet;
+        due = w.quiet_for.ensures.due;
+      } in
+      (c.turn.new.wire, w.quiet_for.result, c.in_ok-turn.ensures.turns, for_so_long, subst (λ wire. g.W.Wire.pause_gives c.turn.new.wire w.quiet_for.result wire) (sym w.wire-is) w.pause.ensures.exact)
   | else-is_idle w ↦ λ yes. absurd (let untrue : true ≡ false = sym (c.is_idle.ensures ∙ yes) ∙ w.if-is_idle.false in cc)
 ]
 

@@ -5,7 +5,7 @@ use Rattle.engine_loop.specs.declared.records.Turn.{Turn}
 use Rattle.gate_io.specs.Clock.{TakesReadings}
 use Rattle.serve_run.specs.Drives.{DrivesFor, drive_of}
 use Rattle.serve_run.specs.Ended.{Awaits}
-use Rattle.serve_run.proofs.driving.drive.Given as goal
+use Rattle.serve_run.proofs.driving.drive_all.Given as goal
 
 -- so many turns were made, one behind another
 abbrev pub invariant-loop-made : goal.invariant-loop-made

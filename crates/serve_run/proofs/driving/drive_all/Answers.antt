@@ -6,7 +6,7 @@ use Rattle.serve_run.specs.Drives.{drive_of}
 use Rattle.serve_run.specs.Ended.{or_ended}
 use Rattle.serve_run.proofs.Drives.{awaits_more, awaits_on, over_from, over_to, own_awaits, takes_more}
 use Rattle.serve_run.proofs.Stopping.{on_err}
-use Rattle.serve_run.proofs.driving.drive.Goals as goal
+use Rattle.serve_run.proofs.driving.drive_all.Goals as goal
 
 pub returns-then-is_over-clause-drives : goal.returns-then-is_over-clause-drives
 returns-then-is_over-clause-drives g c =
